@@ -1,0 +1,3 @@
+pub mod Nodata
+pub mod Steps
+pub mod NearestRoot

@@ -1,0 +1,16 @@
+// What the searches take for granted of IEEE 754 binary32, Rust's `f32`.
+//
+// The crate promises that nodata is any NaN and nothing else (`is_nodata`), that a value which goes
+// into an answer is unchanged but for which NaN it is (`one_nan`), and that the lengths of the two
+// steps are 1 and the binary32 value nearest to the root of 2 (`STRAIGHT`, `DIAGONAL`, and the
+// theorem of proofs/RootOfTwo.antt). Its laws on binary32 are in proofs/, for the crates above.
+mod nodata;
+mod steps;
+
+pub use nodata::is_nodata;
+pub use nodata::nan;
+pub use nodata::one_nan;
+pub use steps::DIAGONAL;
+pub use steps::STRAIGHT;
+pub use steps::diagonal_step;
+pub use steps::straight_step;

@@ -1,0 +1,10 @@
+//! Seeded cases for the eight searches, two programs compared on them, and the stored answers.
+
+pub mod compare;
+pub mod generate;
+pub mod random;
+pub mod readings;
+pub mod stored;
+
+mod nearest;
+mod values;

@@ -1,0 +1,148 @@
+//! `cases`: compares two programs on generated cases, and keeps the stored answers. `cases help` says how.
+use std::path::Path;
+use std::process::ExitCode;
+
+use case::{Search, draw, gridfile, plain};
+use cases::compare::{Seen, Side, compare};
+use cases::generate::{Sizes, generate};
+use cases::{readings, stored};
+use oracle::{Build, Reading, answer};
+
+const USAGE: &str = "\
+cases compare FIRST SECOND [--search N] [--cases N] [--seed N] [--large]
+    Feeds both the same cases of each search (or of one) and stops at the first difference. FIRST and SECOND are
+    `unchanged` or `counted`, the oracle's builds, or the path of a program that reads a grid file from standard input.
+    --large: grids of 10,000 cells, which go to the oracle's builds only.
+cases show SEARCH INDEX [--seed N] [--large]
+    Draws one of these cases with the oracle's answer, and prints it in the plain form and as a grid file.
+cases store FOLDER
+    Writes the fixed list of the oracle's answers, search-1.txt to search-8.txt.
+cases verify FOLDER
+    Asks the oracle again for every stored case.
+cases readings [--plain]
+    For each search the smallest case on which document 01's reading of nodata and the repository's give different
+    grids. --plain: in the plain form, with document 01's answer.
+";
+
+fn main() -> ExitCode {
+    let words: Vec<String> = std::env::args().skip(1).collect();
+    let words: Vec<&str> = words.iter().map(String::as_str).collect();
+    let done = match words[..] {
+        ["compare", first, second, ref options @ ..] => {
+            Options::read(options).and_then(|options| run_compare([first, second], &options))
+        }
+        ["show", search, index, ref options @ ..] => {
+            Options::read(options).and_then(|options| show(search, index, &options))
+        }
+        ["store", folder] => stored::store(Path::new(folder)),
+        ["verify", folder] => stored::verify(Path::new(folder)).map(|count| println!("{count} stored answers hold")),
+        ["readings"] => run_readings(false),
+        ["readings", "--plain"] => run_readings(true),
+        ["help"] => {
+            print!("{USAGE}");
+            Ok(())
+        }
+        _ => {
+            eprint!("{USAGE}");
+            return ExitCode::from(2);
+        }
+    };
+    match done {
+        Ok(()) => ExitCode::SUCCESS,
+        Err(what) => {
+            eprintln!("{what}");
+            ExitCode::FAILURE
+        }
+    }
+}
+
+struct Options {
+    search: Option<Search>,
+    cases: u64,
+    seed: u64,
+    sizes: Sizes,
+}
+
+impl Options {
+    fn read(mut words: &[&str]) -> Result<Options, String> {
+        let mut options = Options { search: None, cases: 1000, seed: 1, sizes: Sizes::File };
+        loop {
+            words = match words {
+                [] => return Ok(options),
+                ["--large", rest @ ..] => {
+                    options.sizes = Sizes::Large;
+                    rest
+                }
+                ["--search", word, rest @ ..] => {
+                    options.search = Some(read_search(word)?);
+                    rest
+                }
+                ["--cases", word, rest @ ..] => {
+                    options.cases = number(word)?;
+                    rest
+                }
+                ["--seed", word, rest @ ..] => {
+                    options.seed = number(word)?;
+                    rest
+                }
+                [word, ..] => return Err(format!("`{word}` is no option, or lacks its number; see `cases help`")),
+            };
+        }
+    }
+}
+
+fn number(word: &str) -> Result<u64, String> {
+    word.parse().map_err(|_| format!("`{word}` is no number"))
+}
+
+fn read_search(word: &str) -> Result<Search, String> {
+    word.parse().ok().and_then(Search::from_number).ok_or_else(|| format!("`{word}` is no search: they are 1 to 8"))
+}
+
+fn run_compare(names: [&str; 2], options: &Options) -> Result<(), String> {
+    let sides = names.map(Side::named);
+    for search in Search::ALL {
+        if options.search.is_none_or(|only| only == search) {
+            let seen = compare(&sides, search, options.sizes, options.seed, options.cases)?;
+            println!("search {}: {} and {} agree: {}", search.number(), names[0], names[1], summary(&seen));
+        }
+    }
+    Ok(())
+}
+
+fn summary(seen: &Seen) -> String {
+    let mut parts = vec![format!("{} files ({} damaged), {} calls", seen.files, seen.damaged, seen.calls)];
+    if seen.not_fed > 0 {
+        parts.push(format!("{} NOT FED, as no grid file holds them", seen.not_fed));
+    }
+    parts.extend(seen.statuses.iter().map(|(status, count)| match status {
+        0 => format!("{count} accepted with {} takes", seen.takes),
+        number => format!("{count} refused by {number}"),
+    }));
+    parts.join(", ")
+}
+
+fn show(search: &str, index: &str, options: &Options) -> Result<(), String> {
+    let case = generate(read_search(search)?, options.sizes, options.seed, number(index)?);
+    let answer = answer(&case, Build::Unchanged, Reading::Document);
+    print!("{}\n{}\n{}", draw::case(&case), draw::answer(&case, &answer), plain::write(&case, &answer));
+    if let Some(file) = gridfile::write(&case) {
+        println!("\ngrid file {}", file.iter().map(|byte| format!(" {byte:02x}")).collect::<String>());
+    }
+    Ok(())
+}
+
+fn run_readings(plainly: bool) -> Result<(), String> {
+    for search in Search::ALL {
+        match readings::smallest(search) {
+            None => println!("# search {}: no difference among the cases of one and two cells", search.number()),
+            Some(found) if plainly => print!("{}", plain::write(&found.case, &found.document)),
+            Some(found) => {
+                let [document, repository] =
+                    [&found.document, &found.repository].map(|answer| draw::answer(&found.case, answer));
+                println!("{}document 01: {document}repository: {repository}", draw::case(&found.case));
+            }
+        }
+    }
+    Ok(())
+}

@@ -1,0 +1,56 @@
+//! The stored answers: a fixed list of the oracle's answers, for tests that have no Rust at hand.
+use std::fs;
+use std::path::Path;
+
+use case::{Search, draw, plain};
+use oracle::{Build, Reading, answer};
+
+use crate::generate::{Sizes, generate};
+
+const SEED: u64 = 1;
+const CASES: u64 = 400;
+
+/// Writes `search-N.txt` for each search.
+pub fn store(folder: &Path) -> Result<(), String> {
+    for search in Search::ALL {
+        let number = search.number();
+        let mut text = format!(
+            "# The oracle's answers for search {number}, {}: {CASES} cases of seed {SEED}.\n# Made by `cases store`.\n",
+            search.name()
+        );
+        for index in 0..CASES {
+            let case = generate(search, Sizes::Stored, SEED, index);
+            text += &plain::write(&case, &answer(&case, Build::Unchanged, Reading::Document));
+        }
+        let path = folder.join(format!("search-{number}.txt"));
+        fs::write(&path, text).map_err(|error| format!("{}: {error}", path.display()))?;
+    }
+    Ok(())
+}
+
+/// Asks the oracle's two builds again for each stored case of a folder's .txt files; how many there were.
+pub fn verify(folder: &Path) -> Result<usize, String> {
+    let entries = fs::read_dir(folder).map_err(|error| format!("{}: {error}", folder.display()))?;
+    let mut paths: Vec<_> = entries.filter_map(|entry| Some(entry.ok()?.path())).collect();
+    paths.retain(|path| path.extension().is_some_and(|extension| extension == "txt"));
+    paths.sort();
+    let mut count = 0;
+    for path in paths {
+        let text = fs::read_to_string(&path).map_err(|error| format!("{}: {error}", path.display()))?;
+        let cases = plain::read(&text).map_err(|line| format!("{}: line {line} is not in the form", path.display()))?;
+        for (case, stored) in &cases {
+            for build in [Build::Unchanged, Build::Counted] {
+                let now = answer(case, build, Reading::Document);
+                if let Some(what) = draw::difference(case, stored, &now) {
+                    let drawn = draw::case(case);
+                    return Err(format!(
+                        "{}: the stored answer and the oracle's differ in {what}\n\n{drawn}",
+                        path.display()
+                    ));
+                }
+            }
+        }
+        count += cases.len();
+    }
+    Ok(count)
+}
