@@ -12,16 +12,24 @@ use lib.Ieee.Digits.{back}
 use lib.Ieee.Fits.{and-l, and-r}
 use lib.Ieee.Positive.{num, den}
 
--- The significand of a value that fits has at most `prec` binary digits.
-pub few-digits : (f : Format) (s : Bool) (m : ℕ) (e : ℤ) → T (fits f (fin s m e)) → m < 2 ^ prec f
+-- What it takes to fit, for a number other than 0: few digits, an exponent that is not too low, and a size that is not too large.
+pub held-within : (f : Format) (s : Bool) (m : ℕ) (e : ℤ) → T (fits f (fin s (suc m) e)) → (suc m < 2 ^ prec f) × (down e ≤ 2 ^ low f) × (suc m * up e < 2 ^ suc (emax f) * down e)
 unfolding fits
-few-digits f s zero e h = pow-pos (prec f)
-few-digits f s (suc m) e h =
+held-within f s m e h =
     let is-odd = eqb (suc m % 2) 1 in
     let is-short = ltb (suc m) (2 ^ prec f) in
     let not-too-low = leb (down e) (2 ^ low f) in
     let not-too-high = ltb (suc m * up e) (2 ^ suc (emax f) * down e) in
-    ltb→lt (suc m) (2 ^ prec f) (and-r is-odd is-short (and-l (is-odd && is-short) not-too-low (and-l (is-odd && is-short && not-too-low) not-too-high h)))
+    let but-high = and-l (is-odd && is-short && not-too-low) not-too-high h in (
+      ltb→lt (suc m) (2 ^ prec f) (and-r is-odd is-short (and-l (is-odd && is-short) not-too-low but-high)),
+      leb→le (down e) (2 ^ low f) (and-r (is-odd && is-short) not-too-low but-high),
+      ltb→lt (suc m * up e) (2 ^ suc (emax f) * down e) (and-r (is-odd && is-short && not-too-low) not-too-high h),
+    )
+
+-- The significand of a value that fits has at most `prec` binary digits.
+pub few-digits : (f : Format) (s : Bool) (m : ℕ) (e : ℤ) → T (fits f (fin s m e)) → m < 2 ^ prec f
+few-digits f s zero e h = pow-pos (prec f)
+few-digits f s (suc m) e h = held-within f s m e h .0
 
 -- ---- a number m / b against g / p and the next multiple (g + 1) / p, by what b is
 

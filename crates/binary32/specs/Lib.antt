@@ -1,3 +1,5 @@
 pub mod Nodata
+pub mod Numbers
 pub mod Steps
+pub mod FromZero
 pub mod NearestRoot

@@ -3,7 +3,8 @@
 // The crate promises that nodata is any NaN and nothing else (`is_nodata`), that a value which goes
 // into an answer is unchanged but for which NaN it is (`one_nan`), and that the lengths of the two
 // steps are 1 and the binary32 value nearest to the root of 2 (`STRAIGHT`, `DIAGONAL`, and the
-// theorem of proofs/RootOfTwo.antt). Its laws on binary32 are in proofs/, for the crates above.
+// theorem of proofs/RootOfTwo.antt). Its laws on binary32 (order, rounding, sums, products, exact
+// results) are in proofs/, for the crates above.
 mod nodata;
 mod steps;
 
