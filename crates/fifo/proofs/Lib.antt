@@ -1,0 +1,14 @@
+-- The laws of the machine, for the crates above.
+pub mod Nets
+pub mod Cases
+pub mod Lists
+pub mod Induction
+pub mod Runs
+pub mod Order
+pub mod Sound
+pub mod Ends
+pub mod Labels
+pub mod LeastSums
+pub mod Taken
+pub mod Search
+pub mod Instance

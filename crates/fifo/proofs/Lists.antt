@@ -1,0 +1,224 @@
+-- Lists of cells: membership, no duplicates, a cell that joins, a cell that is removed, the values and the passing cells of a range.
+use mathlib.Core.Bool.{Bool, true, false, cond, _||_, or-true}
+use mathlib.Core.List.{List, [], _∷_, _++_, map, append-nil}
+use mathlib.Core.Logic.{_⊎_, inl, inr, ⊎-elim}
+use mathlib.Core.Path.{_≡_, refl, sym, ap, _∙_, subst}
+use Prim.Native.Nat.{ℕ, zero, suc, _+_, _<_, _≤_, suc-le-suc}
+use native.Mathlib.Decide.{ℕ-discrete}
+use native.Mathlib.Nat.{zero-add, add-zero, add-suc, suc-add}
+use native.Mathlib.Omega.{arith}
+use borrow.Author.Tests.{eqb-true, eq-eqb}
+use lib.Dec.{T, eqb}
+use lib.ListN.{length, getD}
+use Rattle.fifo.specs.Machine.{among, joined, table, passing}
+use Rattle.fifo.specs.Walk.{In, NoDup}
+
+-- To prove something of a choice by a computed test, prove it of both arms, each with what the test then says.
+pub by-test {ℓ ℓ′} : {A : Type ℓ} (P : A → Type ℓ′) (b : Bool) {x y : A} → (b ≡ true → P x) → (b ≡ false → P y) → P (cond b x y)
+by-test P true p q = p refl
+by-test P false p q = q refl
+
+-- A test holds or fails.
+pub tested : (b : Bool) → (b ≡ true) ⊎ (b ≡ false)
+tested true = inl refl
+tested false = inr refl
+
+pub holds : {b : Bool} → b ≡ true → T b
+holds e = subst T (sym e) tt
+
+pub is-true : (b : Bool) → T b → b ≡ true
+is-true true t = refl
+is-true false t = absurd t
+
+pub true-or-false : {b : Bool} → b ≡ true → b ≡ false → ⊥
+true-or-false p q = subst T (sym p ∙ q) tt
+
+-- A cell is another or not.
+pub same-or-not : (a b : ℕ) → (a ≡ b) ⊎ (a ≡ b → ⊥)
+same-or-not a b = elim (ℕ-discrete a b) [ yes p ↦ inl p | no n ↦ inr n ]
+
+-- `among` decides membership.
+pub among-in : (v : ℕ) (ws : List ℕ) → among v ws ≡ true → In v ws
+unfolding among
+among-in v [] e = absurd (true-or-false e refl)
+among-in v (w ∷ ws) e = go (eqb v w) refl (among-in v ws) e
+  where
+    go : (b : Bool) → eqb v w ≡ b → (among v ws ≡ true → In v ws) → (b || among v ws) ≡ true → In v (w ∷ ws)
+    go true p rest e = inl (eqb-true v w p)
+    go false p rest e = inr (rest e)
+
+pub in-among : (v : ℕ) (ws : List ℕ) → In v ws → among v ws ≡ true
+unfolding among
+in-among v [] i = absurd i
+in-among v (w ∷ ws) (inl p) = ap (λ b. b || among v ws) (eq-eqb v w p)
+in-among v (w ∷ ws) (inr i) = ap (λ b. eqb v w || b) (in-among v ws i) ∙ or-true (eqb v w)
+
+pub in-or-not : (v : ℕ) (ws : List ℕ) → In v ws ⊎ (In v ws → ⊥)
+in-or-not v ws = ⊎-elim (λ t. inl (among-in v ws t)) (λ f. inr (λ i. true-or-false (in-among v ws i) f)) (tested (among v ws))
+
+-- Membership in a list that goes on.
+pub in-front : {A : Type 0} (a : A) (l m : List A) → In a l → In a (l ++ m)
+in-front a [] m i = absurd i
+in-front a (b ∷ l) m (inl p) = inl p
+in-front a (b ∷ l) m (inr i) = inr (in-front a l m i)
+
+pub in-back : {A : Type 0} (a : A) (l m : List A) → In a m → In a (l ++ m)
+in-back a [] m i = i
+in-back a (b ∷ l) m i = inr (in-back a l m i)
+
+pub in-either : {A : Type 0} (a : A) (l m : List A) → In a (l ++ m) → In a l ⊎ In a m
+in-either a [] m i = inr i
+in-either a (b ∷ l) m (inl p) = inl (inl p)
+in-either a (b ∷ l) m (inr i) = ⊎-elim (λ j. inl (inr j)) inr (in-either a l m i)
+
+pub in-map : {A B : Type 0} (g : A → B) (b : B) (l : List A) → In b (map g l) → (a : A) × In a l × (b ≡ g a)
+in-map g b [] i = absurd i
+in-map g b (a ∷ l) (inl p) = (a, inl refl, p)
+in-map g b (a ∷ l) (inr i) = let r = in-map g b l i in (r .0, inr (r .1), r .2)
+
+-- A cell that joins is at the end, once.
+pub joined-waiting : (v : ℕ) (ws : List ℕ) → among v ws ≡ true → joined v ws ≡ ws
+unfolding joined
+joined-waiting v ws e = ap (λ b. cond b ws (ws ++ v ∷ [])) e
+
+pub joined-new : (v : ℕ) (ws : List ℕ) → among v ws ≡ false → joined v ws ≡ ws ++ v ∷ []
+unfolding joined
+joined-new v ws e = ap (λ b. cond b ws (ws ++ v ∷ [])) e
+
+pub joined-appends : (v : ℕ) (ws : List ℕ) → (new : List ℕ) × (joined v ws ≡ ws ++ new)
+joined-appends v ws =
+    ⊎-elim (λ t. ([], joined-waiting v ws t ∙ sym (append-nil ws))) (λ f. (v ∷ [], joined-new v ws f)) (tested (among v ws))
+
+pub in-joined : (c v : ℕ) (ws : List ℕ) → In c ws → In c (joined v ws)
+unfolding joined
+in-joined c v ws i = by-test (In c) (among v ws) (λ _. i) (λ _. in-front c ws (v ∷ []) i)
+
+pub joiner-in : (c v : ℕ) (ws : List ℕ) → c ≡ v → In c (joined v ws)
+unfolding joined
+joiner-in c v ws p = by-test (In c) (among v ws) (λ e. subst (λ b. In b ws) (sym p) (among-in v ws e)) (λ _. in-back c ws (v ∷ []) (inl p))
+
+pub joined-cases : (c v : ℕ) (ws : List ℕ) → In c (joined v ws) → In c ws ⊎ (c ≡ v)
+unfolding joined
+joined-cases c v ws =
+    by-test (λ l. In c l → In c ws ⊎ (c ≡ v)) (among v ws) (λ _ i. inl i) (λ _ i. ⊎-elim inl (⊎-elim inr absurd) (in-either c ws (v ∷ []) i))
+
+no-dup-snoc : (v : ℕ) (ws : List ℕ) → NoDup ws → (In v ws → ⊥) → NoDup (ws ++ v ∷ [])
+no-dup-snoc v [] n out = (λ i. i, tt)
+no-dup-snoc v (w ∷ ws) n out =
+    (λ i. ⊎-elim (n .0) (⊎-elim (λ p. out (inl (sym p))) absurd) (in-either w ws (v ∷ []) i), no-dup-snoc v ws (n .1) (λ i. out (inr i)))
+
+pub no-dup-joined : (v : ℕ) (ws : List ℕ) → NoDup ws → NoDup (joined v ws)
+unfolding joined
+no-dup-joined v ws n =
+    by-test NoDup (among v ws) (λ _. n) (λ e. no-dup-snoc v ws n (λ i. true-or-false (in-among v ws i) e))
+
+-- The list without the first m.
+pub without : ℕ → List ℕ → List ℕ
+without m [] = []
+without m (c ∷ l) = cond (eqb m c) l (c ∷ without m l)
+
+pub length-without : (m : ℕ) (l : List ℕ) → In m l → suc (length (without m l)) ≤ length l
+unfolding without
+length-without m [] i = absurd i
+length-without m (c ∷ l) i = go (eqb m c) refl (length-without m l) i
+  where
+    go :
+        (b : Bool) → eqb m c ≡ b → (In m l → suc (length (without m l)) ≤ length l)
+        → In m (c ∷ l) → suc (length (cond b l (c ∷ without m l))) ≤ suc (length l)
+    go true p rest i = omega arith
+    go false p rest (inl q) = absurd (true-or-false (eq-eqb m c q) p)
+    go false p rest (inr i) = let r = rest i in omega arith
+
+pub in-without : (m c : ℕ) (l : List ℕ) → (c ≡ m → ⊥) → In c l → In c (without m l)
+unfolding without
+in-without m c [] other i = absurd i
+in-without m c (b ∷ l) other i =
+    by-test (In c) (eqb m b) (λ e. ⊎-elim (λ p. absurd (other (p ∙ sym (eqb-true m b e)))) (λ j. j) i)
+    (λ _. ⊎-elim inl (λ j. inr (in-without m c l other j)) i)
+
+-- A list without duplicates whose members all stand in another list is no longer than that.
+-- Its first member stands in the other list; the rest stands in the other list without that member, which is shorter by one.
+pub no-dup-no-longer : (ws l : List ℕ) → NoDup ws → ((c : ℕ) → In c ws → In c l) → length ws ≤ length l
+no-dup-no-longer [] l n all = omega arith
+no-dup-no-longer (w ∷ ws) l n all =
+    let shorter = length-without w l (all w (inl refl)) in
+    let rest = no-dup-no-longer ws (without w l) (n .1) (λ c i. in-without w c l (λ p. n .0 (rw p at i)) (all c (inr i))) in
+    omega arith
+
+-- The values of a function over a range.
+pub length-table : {L : Type 0} (f : ℕ → L) (i k : ℕ) → length (table f i k) ≡ k
+unfolding table
+length-table f i zero = refl
+length-table f i (suc k) = ap suc (length-table f (suc i) k)
+
+pub getD-table : {L : Type 0} (f : ℕ → L) (i k j : ℕ) → getD (table f i k) j (f (i + j)) ≡ f (i + j)
+unfolding table
+getD-table f i zero j = refl
+getD-table f i (suc k) zero = ap f (sym (add-zero i))
+getD-table f i (suc k) (suc j) = rw (add-suc, ← suc-add) (getD-table f (suc i) k j)
+
+-- The cells of a range that pass a test.
+pub in-passing : (test : ℕ → Bool) (i k c : ℕ) → i ≤ c → c < i + k → T (test c) → In c (passing test i k)
+unfolding passing
+in-passing test i zero c low high t = absurd (omega arith)
+in-passing test i (suc k) c low high t =
+    let later : i < c → In c (passing test (suc i) k) = λ above. in-passing test (suc i) k c above (omega arith) t in
+    let at-or-above : (c ≡ i) ⊎ (i < c) = ⊎-elim inl (λ other. inr (omega (arith, other))) (same-or-not c i) in
+    let not-at : test i ≡ false → c ≡ i → ⊥ = λ fails p. true-or-false (is-true (test i) (subst (λ x. T (test x)) p t)) fails in
+    by-test (In c) (test i) (λ _. ⊎-elim inl (λ above. inr (later above)) at-or-above) (λ fails. ⊎-elim (λ p. absurd (not-at fails p)) later at-or-above)
+
+pub passing-in : (test : ℕ → Bool) (i k c : ℕ) → In c (passing test i k) → (i ≤ c) × (c < i + k) × T (test c)
+unfolding passing
+passing-in test i zero c m = absurd m
+passing-in test i (suc k) c m =
+    let later : In c (passing test (suc i) k) → (i ≤ c) × (c < i + suc k) × T (test c) = λ n. one-later (passing-in test (suc i) k c n) in
+    by-test Listed (test i) (λ passes. ⊎-elim (at-once passes) later) (λ _. later) m
+  where
+    Listed : List ℕ → Type 0
+    Listed l = In c l → (i ≤ c) × (c < i + suc k) × T (test c)
+
+    at-once : test i ≡ true → c ≡ i → (i ≤ c) × (c < i + suc k) × T (test c)
+    at-once passes p = (omega arith, omega arith, subst (λ x. T (test x)) (sym p) (holds passes))
+
+    one-later : (suc i ≤ c) × (c < suc i + k) × T (test c) → (i ≤ c) × (c < i + suc k) × T (test c)
+    one-later (low, high, t) = (omega arith, omega arith, t)
+
+pub no-dup-passing : (test : ℕ → Bool) (i k : ℕ) → NoDup (passing test i k)
+unfolding passing
+no-dup-passing test i zero = tt
+no-dup-passing test i (suc k) =
+    let rest = no-dup-passing test (suc i) k in
+    by-test NoDup (test i) (λ e. (λ m. let r = passing-in test (suc i) k i m in omega (arith, r .0), rest)) (λ e. rest)
+
+pub length-passing : (test : ℕ → Bool) (i k : ℕ) → length (passing test i k) ≤ k
+unfolding passing
+length-passing test i zero = omega arith
+length-passing test i (suc k) =
+    let rest = length-passing test (suc i) k in
+    let kept : length (passing test (suc i) k) ≤ suc k = omega arith in
+    by-test (λ (l : List ℕ). length l ≤ suc k) (test i) (λ e. suc-le-suc rest) (λ e. kept)
+
+-- A range cut in two, and with one number more.
+pub table-append : {L : Type 0} (f : ℕ → L) (i j k : ℕ) → table f i (j + k) ≡ table f i j ++ table f (i + j) k
+unfolding table
+table-append f i zero k = rw (zero-add, add-zero)
+table-append f i (suc j) k = rw (suc-add, add-suc, ← suc-add) (ap (λ l. f i ∷ l) (table-append f (suc i) j k))
+
+pub table-last : {L : Type 0} (f : ℕ → L) (k : ℕ) → table f 0 (k + 1) ≡ table f 0 k ++ f k ∷ []
+unfolding table
+table-last f k = table-append f 0 k 1 ∙ ap (λ n. table f 0 k ++ f n ∷ []) (zero-add k)
+
+pub passing-append : (test : ℕ → Bool) (i j k : ℕ) → passing test i (j + k) ≡ passing test i j ++ passing test (i + j) k
+unfolding passing
+passing-append test i zero k = rw (zero-add, add-zero)
+passing-append test i (suc j) k =
+    let later = ap (λ l. cond (test i) (i ∷ l) l) (passing-append test (suc i) j k) in
+    rw (suc-add, add-suc, ← suc-add) (later ∙ outside (test i) (passing test (suc i) j) (passing test (suc i + j) k))
+  where
+    outside : (b : Bool) (l m : List ℕ) → cond b (i ∷ (l ++ m)) (l ++ m) ≡ cond b (i ∷ l) l ++ m
+    outside true l m = refl
+    outside false l m = refl
+
+pub passing-last : (test : ℕ → Bool) (k : ℕ) → passing test 0 (k + 1) ≡ passing test 0 k ++ cond (test k) (k ∷ []) []
+unfolding passing
+passing-last test k = passing-append test 0 k 1 ∙ ap (λ n. passing test 0 k ++ cond (test n) (n ∷ []) []) (zero-add k)

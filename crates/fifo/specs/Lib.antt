@@ -1,0 +1,3 @@
+pub mod Machine
+pub mod Walk
+pub mod Laws
