@@ -5,6 +5,7 @@ pub mod generate;
 pub mod random;
 pub mod readings;
 pub mod stored;
+pub mod theorems;
 
 mod nearest;
 mod values;

@@ -5,7 +5,7 @@ use std::process::ExitCode;
 use case::{Search, draw, gridfile, plain};
 use cases::compare::{Seen, Side, compare};
 use cases::generate::{Sizes, generate};
-use cases::{readings, stored};
+use cases::{readings, stored, theorems};
 use oracle::{Build, Reading, answer};
 
 const USAGE: &str = "\
@@ -19,6 +19,9 @@ cases store FOLDER
     Writes the fixed list of the oracle's answers, search-1.txt to search-8.txt.
 cases verify FOLDER
     Asks the oracle again for every stored case.
+cases theorems REPOSITORY FOLDER COUNT
+    Writes COUNT of the small stored cases of each search as statements about the rules of crates/rules, a file of antt
+    for each search. `oracle/computed` has the checker compute them.
 cases readings [--plain]
     For each search the smallest case on which document 01's reading of nodata and the repository's give different
     grids. --plain: in the plain form, with document 01's answer.
@@ -36,6 +39,9 @@ fn main() -> ExitCode {
         }
         ["store", folder] => stored::store(Path::new(folder)),
         ["verify", folder] => stored::verify(Path::new(folder)).map(|count| println!("{count} stored answers hold")),
+        ["theorems", top, folder, count] => number(count)
+            .and_then(|count| theorems::write(Path::new(top), Path::new(folder), count as usize))
+            .map(|counts| println!("cases of each search: {counts:?}")),
         ["readings"] => run_readings(false),
         ["readings", "--plain"] => run_readings(true),
         ["help"] => {

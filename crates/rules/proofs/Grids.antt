@@ -1,0 +1,200 @@
+-- Document 01's small grids, computed by the rules. Assumes nothing.
+use mathlib.Core.Bool.{true, false}
+use mathlib.Core.List.{List, [], _∷_}
+use mathlib.Core.Path.{_≡_, refl}
+use Prim.Native.Nat.{ℕ, suc}
+use lib.IntN.{ℤ, pos, negsuc}
+use lib.ListN.{length, replicate}
+use lib.Ieee.{Float, nan, inf, binary32, ofBits, div, neg}
+use Rattle.binary32.specs.Steps.{diagonal}
+use Rattle.binary32.specs.Numbers.{plus-zero, one}
+use Rattle.rules.specs.declared.BarrierDiagonals.the-variants.{Include, Exclude}
+use Rattle.rules.specs.Numbers.{infinity, whole}
+use Rattle.rules.specs.Sizes.{Size, Grid, Spacing, Lent, Refusal, number, number-at, Outcome, refused, accepted}
+use Rattle.rules.specs.Computing.{rules-computing}
+use Rattle.rules.specs.Distances.{outcome-1, outcome-2, outcome-3}
+use Rattle.rules.specs.Values.{outcome-4, outcome-5, outcome-6}
+use Rattle.rules.specs.Sums.{outcome-7, outcome-8}
+
+-- What the document says of a grid: its answer, its takes too, or a refusal.
+pub data Said : Type 0 where
+  answer : List Float → Said
+  takes-and-answer : ℕ → List Float → Said
+  refusal : Refusal → Said
+
+-- As much of an outcome as the document says of it.
+abbrev pub heard : Said → Outcome → Said
+heard said (refused r) = refusal r
+heard (answer g) (accepted t h) = answer h
+heard (takes-and-answer s g) (accepted t h) = takes-and-answer t h
+heard (refusal r) (accepted t h) = takes-and-answer t h
+
+-- A grid with a computed outcome, and what is said of it.
+abbrev pub Entry : Type 0
+Entry = Outcome × Said
+
+abbrev pub all-heard : List Entry → List Said
+all-heard [] = []
+all-heard ((outcome, said) ∷ rest) = heard said outcome ∷ all-heard rest
+
+abbrev pub all-said : List Entry → List Said
+all-said [] = []
+all-said ((outcome, said) ∷ rest) = said ∷ all-said rest
+
+abbrev pub grid : {A : Type 0} → ℕ → ℕ → List A → Grid A
+grid rows cols cells = record { size = record { rows = pos rows; cols = pos cols }; cells = cells }
+
+-- One row.
+abbrev pub row : {A : Type 0} → List A → Grid A
+row cells = grid 1 (length cells) cells
+
+-- Slices of the right lengths: the answer and k work buffers of n, and the queue.
+abbrev pub lent : ℕ → ℕ → Lent
+lent n k = record { slices = n ∷ replicate k n; queue = suc n }
+
+abbrev pub spacing : Float → Spacing
+spacing limit = record { «cell_size» = one; limit = limit }
+
+-- The half of a whole number.
+abbrev pub half : ℕ → Float
+half k = div binary32 (whole k) (whole 2)
+
+unfoldable pub small : List Entry
+small =
+    -- A, B
+    (outcome-1 (row (1 ∷ 0 ∷ 0 ∷ [])) (spacing infinity) (lent 3 1), takes-and-answer 3 (plus-zero ∷ whole 1 ∷ whole 2 ∷ [])) ∷
+    (outcome-1 (row (1 ∷ 0 ∷ 0 ∷ [])) (spacing (whole 2)) (lent 3 1), takes-and-answer 2 (plus-zero ∷ whole 1 ∷ whole 2 ∷ [])) ∷
+    -- C
+    (outcome-2 (grid 2 2 (1 ∷ 0 ∷ 0 ∷ 0 ∷ [])) (grid 2 2 (0 ∷ 1 ∷ 1 ∷ 0 ∷ [])) (spacing plus-zero) Exclude (lent 4 1), takes-and-answer 1 (plus-zero ∷ infinity ∷ infinity ∷ infinity ∷ [])) ∷
+    -- D
+    (outcome-2 (row (1 ∷ 0 ∷ 0 ∷ [])) (row (1 ∷ 0 ∷ 0 ∷ [])) (spacing plus-zero) Include (lent 3 1), answer (plus-zero ∷ whole 1 ∷ whole 2 ∷ [])) ∷
+    -- E
+    (outcome-3 (row (1 ∷ 0 ∷ [])) (row (whole 2 ∷ whole 4 ∷ [])) infinity (lent 2 1), answer (plus-zero ∷ whole 3 ∷ [])) ∷
+    -- F, G
+    (outcome-5 (row (255 ∷ 0 ∷ [])) (row (whole 2 ∷ whole 4 ∷ [])) (row (whole 7 ∷ whole 9 ∷ [])) (lent 2 2), answer (whole 7 ∷ whole 7 ∷ [])) ∷
+    (outcome-4 (row (255 ∷ 0 ∷ [])) (row (whole 7 ∷ whole 9 ∷ [])) (lent 2 2), takes-and-answer 0 (plus-zero ∷ plus-zero ∷ [])) ∷
+    -- H
+    (outcome-6 (row (1 ∷ 0 ∷ [])) (row (whole 2 ∷ whole 4 ∷ [])) (row (whole 7 ∷ whole 9 ∷ [])) (whole 4) (lent 2 2), answer (whole 7 ∷ plus-zero ∷ [])) ∷
+    (outcome-6 (row (1 ∷ 0 ∷ [])) (row (whole 2 ∷ whole 4 ∷ [])) (row (whole 7 ∷ whole 9 ∷ [])) (half 9) (lent 2 2), answer (whole 7 ∷ whole 7 ∷ [])) ∷
+    -- I
+    (outcome-7 (row (1 ∷ 0 ∷ [])) (row (whole 2 ∷ whole 4 ∷ [])) (row (whole 7 ∷ whole 9 ∷ [])) (whole 3) false (lent 2 4), answer (whole 16 ∷ plus-zero ∷ [])) ∷
+    (outcome-7 (row (1 ∷ 0 ∷ [])) (row (whole 2 ∷ whole 4 ∷ [])) (row (whole 7 ∷ whole 9 ∷ [])) (half 5) false (lent 2 4), refusal (number-at 7 0)) ∷
+    -- J
+    (outcome-7 (row (1 ∷ 0 ∷ [])) (row (whole 2 ∷ nan ∷ [])) (row (whole 7 ∷ whole 9 ∷ [])) (whole 3) true (lent 2 4), answer (whole 16 ∷ plus-zero ∷ [])) ∷
+    (outcome-7 (row (1 ∷ 0 ∷ [])) (row (whole 2 ∷ nan ∷ [])) (row (whole 7 ∷ whole 9 ∷ [])) infinity true (lent 2 4), answer (whole 7 ∷ plus-zero ∷ [])) ∷
+    -- L
+    (outcome-8 (row (plus-zero ∷ whole 16777216 ∷ [])) (row (whole 5 ∷ plus-zero ∷ [])) (whole 16777216) (lent 2 3), answer (whole 5 ∷ plus-zero ∷ [])) ∷
+    -- M
+    (outcome-8 (row (nan ∷ whole 4 ∷ [])) (row (whole 5 ∷ plus-zero ∷ [])) (whole 9) (lent 2 3), takes-and-answer 0 (plus-zero ∷ plus-zero ∷ [])) ∷ []
+
+pub small-grids : all-heard small ≡ all-said small
+unfolding small rules-computing
+small-grids = refl
+
+-- ---- what the fifteen don't notice
+
+-- Sizes that are lent with slices that fit none of them.
+abbrev pub sized : {A : Type 0} → ℤ → ℤ → List A → Grid A
+sized rows cols cells = record { size = record { rows = rows; cols = cols }; cells = cells }
+
+-- A number so large that 1 more is lost.
+abbrev pub large : Float
+large = ofBits binary32 0x4b80_0000
+
+unfoldable pub more : List Entry
+more =
+    -- one side blocked, Exclude: the diagonal is let through
+    (outcome-2 (grid 2 2 (1 ∷ 0 ∷ 0 ∷ 0 ∷ [])) (grid 2 2 (0 ∷ 1 ∷ 0 ∷ 0 ∷ [])) (spacing plus-zero) Exclude (lent 4 1), answer (plus-zero ∷ infinity ∷ whole 1 ∷ diagonal ∷ [])) ∷
+    -- C with Include
+    (outcome-2 (grid 2 2 (1 ∷ 0 ∷ 0 ∷ 0 ∷ [])) (grid 2 2 (0 ∷ 1 ∷ 1 ∷ 0 ∷ [])) (spacing plus-zero) Include (lent 4 1), answer (plus-zero ∷ infinity ∷ infinity ∷ diagonal ∷ [])) ∷
+    -- the document's whole case: C with Include, cell size 10
+    (
+      outcome-2 (grid 2 2 (1 ∷ 0 ∷ 0 ∷ 0 ∷ [])) (grid 2 2 (0 ∷ 1 ∷ 1 ∷ 0 ∷ [])) (record { «cell_size» = whole 10; limit = plus-zero }) Include (lent 4 1),
+      takes-and-answer 2 (plus-zero ∷ infinity ∷ infinity ∷ ofBits binary32 0x4162_4630 ∷ []),
+    ) ∷
+    -- a cap keeps its sign, nothing is below -0.0, and a nodata target is NaN
+    (outcome-1 (row (0 ∷ 1 ∷ 255 ∷ [])) (record { «cell_size» = whole 10; limit = neg plus-zero }) (lent 3 1), takes-and-answer 1 (neg plus-zero ∷ plus-zero ∷ nan ∷ [])) ∷
+    -- a tie: the cell in the middle keeps the value that came first
+    (outcome-4 (row (1 ∷ 0 ∷ 1 ∷ [])) (row (whole 7 ∷ whole 8 ∷ whole 9 ∷ [])) (lent 3 2), takes-and-answer 3 (whole 7 ∷ whole 7 ∷ whole 9 ∷ [])) ∷
+    -- served in order of arrival each cell is taken once
+    (
+      outcome-1 (grid 3 3 (1 ∷ 0 ∷ 0 ∷ 0 ∷ 0 ∷ 0 ∷ 0 ∷ 0 ∷ 0 ∷ [])) (spacing infinity) (lent 9 1),
+      takes-and-answer 9 (plus-zero ∷ whole 1 ∷ whole 2 ∷ whole 1 ∷ diagonal ∷ ofBits binary32 0x401a_827a ∷ whole 2 ∷ ofBits binary32 0x401a_827a ∷ ofBits binary32 0x4035_04f3 ∷ []),
+    ) ∷
+    -- the large step first absorbs the two small ones; from the other end they would add up to 2
+    (
+      outcome-3 (row (1 ∷ 0 ∷ 0 ∷ 0 ∷ [])) (row (whole 33554432 ∷ plus-zero ∷ whole 2 ∷ plus-zero ∷ [])) infinity (lent 4 1),
+      answer (plus-zero ∷ ofBits binary32 0x4b80_0000 ∷ ofBits binary32 0x4b80_0000 ∷ ofBits binary32 0x4b80_0000 ∷ []),
+    ) ∷
+    -- refusals of 1: 1, 3, 4, 5
+    (outcome-1 (sized (pos 0) (pos 32768) []) (spacing infinity) (lent 0 1), refusal (number 1)) ∷
+    (outcome-1 (row (1 ∷ 0 ∷ [])) (spacing infinity) (lent 3 1), refusal (number 3)) ∷
+    (outcome-1 (row (1 ∷ [])) (record { «cell_size» = plus-zero; limit = nan }) (lent 1 1), refusal (number 4)) ∷
+    (outcome-1 (row (1 ∷ [])) (spacing nan) (lent 1 1), refusal (number 5)) ∷
+    -- of 2: 1, 2, 3, 4, and no limit is refused
+    (outcome-2 (sized (pos 1025) (pos 1024) []) (sized (pos 1025) (pos 1024) []) (spacing nan) Include (lent 0 1), refusal (number 1)) ∷
+    (outcome-2 (grid 2 3 []) (grid 3 2 []) (spacing nan) Include (lent 0 1), refusal (number 2)) ∷
+    (outcome-2 (row (1 ∷ [])) (row (0 ∷ 0 ∷ [])) (spacing nan) Include (lent 1 1), refusal (number 2)) ∷
+    (outcome-2 (row (1 ∷ [])) (grid 1 1 (0 ∷ 0 ∷ [])) (spacing nan) Include (lent 1 1), refusal (number 3)) ∷
+    (outcome-2 (row (1 ∷ [])) (row (0 ∷ [])) (record { «cell_size» = infinity; limit = nan }) Include (lent 1 1), refusal (number 4)) ∷
+    (outcome-2 (row (1 ∷ [])) (row (0 ∷ [])) (spacing nan) Include (lent 1 1), takes-and-answer 1 (plus-zero ∷ [])) ∷
+    -- of 3: 1, 2, 3, 5, 6 with the first index
+    (outcome-3 (sized (negsuc 0) (pos 1) []) (sized (negsuc 0) (pos 1) []) nan (lent 0 1), refusal (number 1)) ∷
+    (outcome-3 (grid 0 3 []) (grid 3 0 []) nan (lent 0 1), refusal (number 2)) ∷
+    (outcome-3 (row (1 ∷ [])) (row (whole 1 ∷ [])) nan (record { slices = 1 ∷ 1 ∷ []; queue = 1 }), refusal (number 3)) ∷
+    (outcome-3 (row (1 ∷ [])) (row (inf true ∷ [])) nan (lent 1 1), refusal (number 5)) ∷
+    (outcome-3 (row (1 ∷ 0 ∷ 0 ∷ [])) (row (nan ∷ inf true ∷ inf true ∷ [])) (inf true) (lent 3 1), refusal (number-at 6 1)) ∷
+    -- of 4: 1, 2, 3
+    (outcome-4 (sized (pos 32768) (pos 1) []) (row []) (lent 0 2), refusal (number 1)) ∷
+    (outcome-4 (row (1 ∷ [])) (row []) (lent 1 2), refusal (number 2)) ∷
+    (outcome-4 (row (1 ∷ [])) (row (nan ∷ [])) (lent 1 0), takes-and-answer 1 (nan ∷ [])) ∷
+    (outcome-4 (row (1 ∷ [])) (row (nan ∷ [])) (lent 0 2), refusal (number 3)) ∷
+    -- of 5: 1, 2, 3, 6
+    (outcome-5 (row []) (row []) (sized (pos 32768) (pos 0) []) (lent 0 2), refusal (number 1)) ∷
+    (outcome-5 (row (1 ∷ [])) (row (whole 1 ∷ [])) (row []) (lent 1 2), refusal (number 2)) ∷
+    (outcome-5 (row (1 ∷ [])) (grid 1 1 []) (row (whole 1 ∷ [])) (lent 1 2), refusal (number 3)) ∷
+    (outcome-5 (row (1 ∷ [])) (row (neg (whole 1) ∷ [])) (row (whole 1 ∷ [])) (lent 1 2), refusal (number-at 6 0)) ∷
+    -- of 6: 1, 2, 3, 5, 6; -0.0 is no negative time
+    (outcome-6 (sized (pos 0) (negsuc 0) []) (row []) (row []) nan (lent 0 2), refusal (number 1)) ∷
+    (outcome-6 (row []) (row (whole 1 ∷ [])) (row []) nan (lent 0 2), refusal (number 2)) ∷
+    (outcome-6 (row []) (row []) (row []) nan (record { slices = 0 ∷ 0 ∷ 0 ∷ []; queue = 0 }), refusal (number 3)) ∷
+    (outcome-6 (row []) (row []) (row []) nan (lent 0 2), refusal (number 5)) ∷
+    (outcome-6 (row (1 ∷ 0 ∷ [])) (row (neg plus-zero ∷ neg (whole 1) ∷ [])) (row (whole 1 ∷ whole 1 ∷ [])) (inf true) (lent 2 2), refusal (number-at 6 1)) ∷
+    -- of 7: 1, 2, 3, 5 (NaN, 0, -0.0), 6, and 7 with the first mask cell in row order
+    (outcome-7 (sized (pos 0) (pos 32768) []) (row []) (row []) nan false (lent 0 4), refusal (number 1)) ∷
+    (outcome-7 (row []) (row []) (row (nan ∷ [])) nan false (lent 0 4), refusal (number 2)) ∷
+    (outcome-7 (row []) (row []) (row []) nan false (lent 1 4), refusal (number 3)) ∷
+    (outcome-7 (row []) (row []) (row []) nan false (lent 0 4), refusal (number 5)) ∷
+    (outcome-7 (row []) (row []) (row []) plus-zero false (lent 0 4), refusal (number 5)) ∷
+    (outcome-7 (row (1 ∷ [])) (row (neg (whole 1) ∷ [])) (row (nan ∷ [])) (neg plus-zero) false (lent 1 4), refusal (number 5)) ∷
+    (outcome-7 (row (0 ∷ [])) (row (neg (whole 1) ∷ [])) (row (nan ∷ [])) infinity false (lent 1 4), refusal (number-at 6 0)) ∷
+    (outcome-7 (row (0 ∷ 1 ∷ 1 ∷ [])) (row (plus-zero ∷ whole 4 ∷ whole 4 ∷ [])) (row (nan ∷ nan ∷ nan ∷ [])) (whole 3) true (lent 3 4), refusal (number-at 7 1)) ∷
+    -- of 8: 1, 2, 3, 5, 6
+    (outcome-8 (sized (pos 1025) (pos 1024) []) (row []) nan (lent 0 3), refusal (number 1)) ∷
+    (outcome-8 (row []) (row (nan ∷ [])) nan (lent 0 3), refusal (number 2)) ∷
+    (outcome-8 (row (nan ∷ [])) (grid 1 1 []) nan (lent 1 3), refusal (number 3)) ∷
+    (outcome-8 (row (nan ∷ [])) (row (nan ∷ [])) (neg (whole 1)) (lent 1 3), refusal (number 5)) ∷
+    (outcome-8 (row (nan ∷ neg (whole 1) ∷ [])) (row (nan ∷ nan ∷ [])) infinity (lent 2 3), refusal (number-at 6 1)) ∷
+    -- the eight neighbours in trying order: any other order loses the 1 in the middle
+    (
+      outcome-7 (grid 3 3 (0 ∷ 0 ∷ 0 ∷ 0 ∷ 1 ∷ 0 ∷ 0 ∷ 0 ∷ 0 ∷ [])) (grid 3 3 (replicate 9 (whole 1)))
+          (grid 3 3 (large ∷ large ∷ large ∷ large ∷ whole 1 ∷ neg large ∷ neg large ∷ neg large ∷ neg large ∷ [])) (whole 9) false (lent 9 4),
+      answer (plus-zero ∷ plus-zero ∷ plus-zero ∷ plus-zero ∷ whole 1 ∷ plus-zero ∷ plus-zero ∷ plus-zero ∷ plus-zero ∷ []),
+    ) ∷
+    -- 7 adds an adjacent cell once, though two listed cells are beside it
+    (
+      outcome-7 (grid 2 2 (1 ∷ 0 ∷ 0 ∷ 0 ∷ [])) (grid 2 2 (whole 1 ∷ whole 1 ∷ whole 1 ∷ nan ∷ [])) (grid 2 2 (whole 1 ∷ whole 2 ∷ whole 4 ∷ whole 8 ∷ [])) (whole 9) true (lent 4 4),
+      takes-and-answer 3 (whole 15 ∷ plus-zero ∷ plus-zero ∷ plus-zero ∷ []),
+    ) ∷
+    -- K: a cell at budget + 1 is not entered, one above the budget is entered and gains nothing
+    (outcome-8 (row (whole 2 ∷ whole 4 ∷ [])) (row (whole 5 ∷ plus-zero ∷ [])) (half 7) (lent 2 3), takes-and-answer 2 (whole 5 ∷ plus-zero ∷ [])) ∷
+    (outcome-8 (row (whole 2 ∷ whole 4 ∷ [])) (row (whole 5 ∷ plus-zero ∷ [])) (whole 3) (lent 2 3), takes-and-answer 1 (whole 5 ∷ plus-zero ∷ [])) ∷
+    -- a huge budget crosses a nodata time
+    (outcome-8 (row (whole 1 ∷ nan ∷ [])) (row (whole 5 ∷ plus-zero ∷ [])) (ofBits binary32 0x7f7f_ffff) (lent 2 3), takes-and-answer 2 (whole 5 ∷ whole 5 ∷ [])) ∷
+    -- inf and -inf in reach add up to NaN, and no amount is counted twice
+    (outcome-8 (row (whole 1 ∷ whole 1 ∷ [])) (row (infinity ∷ neg infinity ∷ [])) (whole 1) (lent 2 3), takes-and-answer 4 (nan ∷ nan ∷ [])) ∷
+    (outcome-8 (row (whole 1 ∷ whole 1 ∷ [])) (row (whole 5 ∷ whole 6 ∷ [])) (whole 9) (lent 2 3), takes-and-answer 4 (whole 11 ∷ whole 11 ∷ [])) ∷ []
+
+pub more-grids : all-heard more ≡ all-said more
+unfolding more rules-computing
+more-grids = refl

@@ -1,0 +1,8 @@
+pub mod Numbers
+pub mod Sizes
+pub mod Cells
+pub mod Distances
+pub mod Values
+pub mod Sums
+pub mod Paths
+pub mod Computing

@@ -1,0 +1,107 @@
+-- Document 01, "Sizes and refusals": grids, their bounds, and the tests by which a call is refused. Definitions only.
+use mathlib.Core.Bool.{Bool, true, false, not, cond, _&&_, _||_}
+use mathlib.Core.List.{List, [], _∷_, _++_}
+use Prim.Native.Nat.{ℕ, suc, _*_}
+use lib.Dec.{leb, eqb}
+use lib.IntN.{ℤ, pos}
+use lib.Signed.{mag, leZ}
+use lib.Ieee.{Float, isNan, lt, le}
+use Rattle.binary32.specs.Numbers.{plus-zero}
+pub use Rattle.rules.specs.declared.Size.{Size}
+pub use Rattle.rules.specs.declared.Spacing.{Spacing}
+use Rattle.rules.specs.Numbers.{finite}
+
+-- ---- sizes
+
+-- A grid: its size, and its cells in row-major order.
+pub record Grid (A : Type 0) : Type 0 where
+  pub size : Size
+  pub cells : List A
+
+-- Each side is 0 to 32,767.
+abbrev pub side-fits : ℤ → Bool
+side-fits k = leZ (pos 0) k && leZ k (pos 32767)
+
+-- n = rows times columns.
+abbrev pub count : Size → ℕ
+count s = mag (s .rows) * mag (s .cols)
+
+-- The bounds: each side fits, and n is at most 1,048,576.
+abbrev pub in-bounds : Size → Bool
+in-bounds s = side-fits (s .rows) && side-fits (s .cols) && leb (count s) 1048576
+
+abbrev pub same-number : ℤ → ℤ → Bool
+same-number k l = leZ k l && leZ l k
+
+abbrev pub same-size : Size → Size → Bool
+same-size a b = same-number (a .rows) (b .rows) && same-number (a .cols) (b .cols)
+
+-- ---- what a call is given and what it answers
+
+-- The lengths of the lent answer and work buffers, in the order in which the call takes them, and that of the queue.
+pub record Lent : Type 0 where
+  pub slices : List ℕ
+  pub queue : ℕ
+
+-- A refusal's number, alone or with its index.
+pub data Refusal : Type 0 where
+  number : ℕ → Refusal
+  number-at : ℕ → ℕ → Refusal
+
+-- What a call answers: a refusal, or the takes and the answer grid.
+pub data Outcome : Type 0 where
+  refused : Refusal → Outcome
+  accepted : ℕ → List Float → Outcome
+
+-- ---- refusals
+
+-- What tests come to.
+pub data Judged : Type 0 where
+  passes : Judged
+  stops : Refusal → Judged
+
+-- The refusal that was given, or else what the search answers.
+abbrev pub unless : Judged → (Unit {0} → Outcome) → Outcome
+unless (stops refusal) search = refused refusal
+unless passes search = search tt
+
+-- Of an ordered list of tests the first that holds is given.
+unfoldable pub first-that-holds : List (Bool × Refusal) → Judged
+first-that-holds [] = passes
+first-that-holds ((holds, refusal) ∷ tests) = cond holds (stops refusal) (first-that-holds tests)
+
+unfoldable pub any : {A : Type 0} → (A → Bool) → List A → Bool
+any test [] = false
+any test (a ∷ rest) = test a || any test rest
+
+-- The index of the first that passes the test.
+unfoldable pub first-index : {A : Type 0} → (A → Bool) → List A → ℕ
+first-index test [] = 0
+first-index test (a ∷ rest) = cond (test a) 0 (suc (first-index test rest))
+
+-- 1: an input grid's size breaks the bounds. 2: two input grids differ in rows or columns. 3: a lent slice has not its length: n, or n + 1 for the queue.
+-- The first grid's size, those of the others, the lengths of the input slices, and what else is lent.
+unfoldable pub shape : Size → List Size → List ℕ → Lent → List (Bool × Refusal) → List (Bool × Refusal)
+shape size others inputs lent more =
+    let n = count size in
+    (any (λ s. not (in-bounds s)) (size ∷ others), number 1) ∷
+    (any (λ s. not (same-size size s)) others, number 2) ∷
+    (any (λ l. not (eqb l n)) (inputs ++ lent .slices) || not (eqb (lent .queue) (suc n)), number 3) ∷ more
+
+-- 4: the cell size is not finite or not above 0.
+abbrev pub bad-cell-size : Float → Bool × Refusal
+bad-cell-size x = (not (finite x && lt plus-zero x), number 4)
+
+-- 5: the limit is NaN; of a budget, also limit <= 0.
+abbrev pub nan-limit : Float → Bool × Refusal
+nan-limit limit = (isNan limit, number 5)
+
+abbrev pub bad-budget : Float → Bool × Refusal
+bad-budget limit = (isNan limit || le limit plus-zero, number 5)
+
+-- 6: a time with data is below 0, with the first such index. -0.0 is not, and NaN is nodata.
+abbrev pub below-zero : Float → Bool
+below-zero time = lt time plus-zero
+
+abbrev pub negative-time : List Float → Bool × Refusal
+negative-time times = (any below-zero times, number-at 6 (first-index below-zero times))

@@ -1,0 +1,143 @@
+-- Searches 7 and 8: sums within reach. Definitions only.
+use mathlib.Core.Bool.{Bool, true, false, not, cond, _&&_}
+use mathlib.Core.List.{List, [], _∷_, map, foldl}
+use Prim.Native.Nat.{ℕ, _+_, _*_, min}
+use lib.Dec.{eqb}
+use lib.IntN.{ℤ, pos, negsuc}
+use lib.ListN.{getD, set, length, replicate}
+use lib.Ieee.{Float, binary32, add, mul, lt, le, eq}
+use Rattle.fifo.specs.Machine.{Net, State, among, joined, passing, label, finish, takes-of, trace, initial}
+use Rattle.binary32.specs.Numbers.{plus-zero, one}
+use Rattle.rules.specs.Numbers.{infinity, quarter-of-largest}
+use Rattle.rules.specs.Sizes.{Size, Grid, Lent, Refusal, number-at, Outcome, accepted, Judged, unless, any, first-that-holds, shape, bad-budget, negative-time, count}
+use Rattle.rules.specs.Cells.{neighbours, moves}
+use Rattle.rules.specs.Distances.{float, target, has-data, plus-half-sum}
+
+-- The run of one start: the cell that it starts from, its takes, and where it ends.
+pub record Run : Type 0 where
+  pub from : ℕ
+  pub takes : ℕ
+  pub ends : State Float
+
+abbrev pub run-of : (ℕ → Net Float) → ℕ → Run
+run-of net c = record { from = c; takes = takes-of (net c); ends = finish (net c) }
+
+-- takes over all starts together, where a total above 18,446,744,073,709,551,615 is given as that number.
+unfoldable pub total-takes : List Run → ℕ
+total-takes runs = min (foldl (λ total run. total + run .takes) 0 runs) 18446744073709551615
+
+-- ---- 7: sum_within_travel_distance
+
+-- From a mask cell: an unbounded search, with the steps of 3.
+unfoldable pub from-mask-cell : Grid Float → ℕ → Net Float
+from-mask-cell times m = record {
+  cells = count (times .size);
+  below = lt;
+  first = λ c. cond (eqb c m) plus-zero infinity;
+  start = λ c. eqb c m && has-data times c;
+  enterable = has-data times;
+  nbrs = λ u. moves (times .size) (has-data times) (has-data times) (plus-half-sum times u) u;
+}
+
+unfoldable pub runs-7 : Grid ℕ → Grid Float → List Run
+runs-7 mask times = map (run-of (from-mask-cell times)) (passing (target mask) 0 (count (mask .size)))
+
+-- The list holds the mask cell, then cells in order of first entry. A mask cell with nodata time is listed alone.
+abbrev pub listed : Grid Float → Run → List ℕ
+listed times run = cond (has-data times (run .from)) (run .ends .entered) (run .from ∷ [])
+
+-- The cell's distance at the end.
+abbrev pub distance-at : Run → ℕ → Float
+distance-at run c = getD (run .ends .labels) c infinity
+
+-- Values with data are added in list order.
+unfoldable pub add-values : Grid Float → Float → List ℕ → Float
+add-values values sum cells = foldl (λ sum c. cond (has-data values c) (add binary32 sum (float values c)) sum) sum cells
+
+-- Above, below, left, right.
+abbrev pub adjacent-offsets : List (List ℤ)
+adjacent-offsets = (negsuc 0 ∷ pos 0 ∷ []) ∷ (pos 1 ∷ pos 0 ∷ []) ∷ (pos 0 ∷ negsuc 0 ∷ []) ∷ (pos 0 ∷ pos 1 ∷ []) ∷ []
+
+-- A cell not listed, with distance above the budget, once.
+unfoldable pub adjoin : Grid Float → Float → Run → List ℕ → ℕ → List ℕ
+adjoin times budget run found v = cond (not (among v (listed times run)) && lt budget (distance-at run v)) (joined v found) found
+
+-- For each listed cell, above, below, left, right.
+unfoldable pub adjacent-cells : Grid Float → Float → Run → List ℕ
+adjacent-cells times budget run = foldl (λ found u. foldl (adjoin times budget run) found (neighbours (times .size) u adjacent-offsets)) [] (listed times run)
+
+-- The sum of a mask cell, from +0.0.
+unfoldable pub sum-of : Grid Float → Grid Float → Float → Bool → Run → Float
+sum-of times values budget adjacent run =
+    let sum = add-values values plus-zero (listed times run) in
+    cond adjacent (add-values values sum (adjacent-cells times budget run)) sum
+
+-- Unselected cells hold 0.
+unfoldable pub sums : Grid Float → Grid Float → Float → Bool → List Run → List Float
+sums times values budget adjacent runs =
+    foldl (λ answer run. set answer (run .from) (sum-of times values budget adjacent run)) (replicate (count (times .size)) plus-zero) runs
+
+unfoldable pub refusals-7 : Grid ℕ → Grid Float → Grid Float → Float → Lent → Judged
+refusals-7 mask times values budget lent = first-that-holds (
+    shape (mask .size) (times .size ∷ values .size ∷ []) (length (mask .cells) ∷ length (times .cells) ∷ length (values .cells) ∷ []) lent (
+    bad-budget budget ∷ negative-time (times .cells) ∷ []))
+
+-- 7: a cell reached from a mask cell has distance above the budget, with that mask cell's index, first in row order.
+abbrev pub over-budget : Grid Float → Float → Run → Bool × Refusal
+over-budget times budget run = (any (λ c. lt budget (distance-at run c)) (listed times run), number-at 7 (run .from))
+
+unfoldable pub refusal-7 : Grid Float → Float → List Run → Judged
+refusal-7 times budget runs = first-that-holds (map (over-budget times budget) runs)
+
+unfoldable pub outcome-7 : Grid ℕ → Grid Float → Grid Float → Float → Bool → Lent → Outcome
+outcome-7 mask times values budget adjacent lent = unless (refusals-7 mask times values budget lent) (λ search.
+    let runs = runs-7 mask times in
+    unless (refusal-7 times budget runs) (λ search. accepted (total-takes runs) (sums times values budget adjacent runs)))
+
+-- ---- 8: sum_targets_within_travel_distance
+
+-- In 8 a nodata time counts as the largest f32 divided by 4, so a huge budget crosses it.
+abbrev pub time-or-quarter : Grid Float → ℕ → Float
+time-or-quarter times v = cond (has-data times v) (float times v) quarter-of-largest
+
+-- From a target, d + s * b. Distances start at the f32 sum budget + 1. A target with nodata time takes nothing.
+unfoldable pub from-amount : Grid Float → Float → ℕ → Net Float
+from-amount times budget t = record {
+  cells = count (times .size);
+  below = lt;
+  first = λ c. cond (eqb c t) plus-zero (add binary32 budget one);
+  start = λ c. eqb c t && has-data times c;
+  enterable = λ c. true;
+  nbrs = moves (times .size) (λ v. true) (λ v. true) (λ s v d. add binary32 d (mul binary32 s (time-or-quarter times v)));
+}
+
+-- Per amount with data and nonzero, in row order.
+abbrev pub counts : Grid Float → ℕ → Bool
+counts amounts c = has-data amounts c && not (eq (float amounts c) plus-zero)
+
+unfoldable pub runs-8 : Grid Float → Grid Float → Float → List Run
+runs-8 times amounts budget = map (run-of (from-amount times budget)) (passing (counts amounts) 0 (count (times .size)))
+
+-- Each cell taken with distance <= budget, once per target.
+unfoldable pub gaining : Grid Float → Float → ℕ → List ℕ
+gaining times budget t =
+    let net = from-amount times budget t in
+    foldl (λ cells taken. cond (le (taken .1) budget) (joined (taken .0) cells) cells) [] (trace net (net .cells * net .cells) (initial net))
+
+-- Each of them gains the amount.
+unfoldable pub gain : Float → List Float → List ℕ → List Float
+gain amount answer cells = foldl (λ answer c. set answer c (add binary32 (getD answer c plus-zero) amount)) answer cells
+
+unfoldable pub gains : Grid Float → Grid Float → Float → List Run → List Float
+gains times amounts budget runs =
+    foldl (λ answer run. gain (float amounts (run .from)) answer (gaining times budget (run .from))) (replicate (count (times .size)) plus-zero) runs
+
+unfoldable pub refusals-8 : Grid Float → Grid Float → Float → Lent → Judged
+refusals-8 times amounts budget lent = first-that-holds (
+    shape (times .size) (amounts .size ∷ []) (length (times .cells) ∷ length (amounts .cells) ∷ []) lent (
+    bad-budget budget ∷ negative-time (times .cells) ∷ []))
+
+unfoldable pub outcome-8 : Grid Float → Grid Float → Float → Lent → Outcome
+outcome-8 times amounts budget lent = unless (refusals-8 times amounts budget lent) (λ search.
+    let runs = runs-8 times amounts budget in
+    accepted (total-takes runs) (gains times amounts budget runs))
