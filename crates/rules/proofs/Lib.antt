@@ -1,1 +1,9 @@
 pub mod Grids
+pub mod Neighbours
+pub mod AddedCosts
+pub mod Inputs
+pub mod Nets
+pub mod Squares
+pub mod LeastSums
+pub mod Totals
+pub mod Accepted

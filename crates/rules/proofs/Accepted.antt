@@ -1,0 +1,106 @@
+-- What is known of the inputs of a call that no test refuses. Assumes nothing.
+use mathlib.Core.Bool.{Bool, true, false, not, cond}
+use mathlib.Core.List.{List, _∷_}
+use mathlib.Core.Path.{_≡_, refl, sym, subst}
+use Prim.Native.Nat.{ℕ}
+use lib.Dec.{T}
+use lib.Ieee.{Float, isNan, le}
+use Rattle.binary32.specs.Numbers.{plus-zero}
+use Rattle.rules.specs.Sizes.{Size, Grid, Spacing, Lent, Refusal, Judged, passes, stops, in-bounds, any, first-that-holds, shape, below-zero}
+use Rattle.rules.specs.Distances.{refusals-1, refusals-2, refusals-3}
+use Rattle.rules.specs.Values.{refusals-4, refusals-5, refusals-6}
+use Rattle.rules.specs.Sums.{refusals-7, refusals-8}
+use Rattle.rules.proofs.Inputs.{neither}
+
+abbrev Passed : Judged → Type 0
+Passed passes = Unit {0}
+Passed (stops r) = ⊥
+
+-- If no test of a list holds, the first does not, and none of the others.
+not-held : (test : Bool × Refusal) (tests : List (Bool × Refusal)) → first-that-holds (test ∷ tests) ≡ passes → (test .0 ≡ false) × (first-that-holds tests ≡ passes)
+unfolding first-that-holds
+not-held (holds, refusal) tests = go holds
+  where
+    go : (b : Bool) → cond b (stops refusal) (first-that-holds tests) ≡ passes → (b ≡ false) × (first-that-holds tests ≡ passes)
+    go true e = absurd (subst Passed (sym e) tt)
+    go false e = (refl, e)
+
+not-false : (b : Bool) → not b ≡ false → T b
+not-false true e = tt
+not-false false e = absurd (subst T e tt)
+
+-- After the tests of the shape the first grid is in bounds, so are the others, and the search's own tests are left.
+after-shape :
+    (size : Size) (others : List Size) (inputs : List ℕ) (lent : Lent) (more : List (Bool × Refusal)) → first-that-holds (shape size others inputs lent more) ≡ passes
+    → T (in-bounds size) × (any (λ s. not (in-bounds s)) others ≡ false) × (first-that-holds more ≡ passes)
+unfolding shape any
+after-shape size others inputs lent more e =
+    let (bounds, e) = not-held _ _ e in
+    let (sizes, e) = not-held _ _ e in
+    let (lengths, e) = not-held _ _ e in
+    let (first, rest) = neither (not (in-bounds size)) (any (λ s. not (in-bounds s)) others) bounds in
+    (not-false (in-bounds size) first, rest, e)
+
+-- ---- each search: its grids are in bounds, its limit is no NaN, its budget is above 0, and no time is below 0
+
+pub accepted-1 : (targets : Grid ℕ) (spacing : Spacing) (lent : Lent) → refusals-1 targets spacing lent ≡ passes → T (in-bounds (targets .size)) × (isNan (spacing .limit) ≡ false)
+unfolding refusals-1
+accepted-1 targets spacing lent e =
+    let (bounds, others, e) = after-shape _ _ _ _ _ e in
+    let (cell-size, e) = not-held _ _ e in
+    (bounds, (not-held _ _ e) .0)
+
+pub accepted-2 : (targets obstacles : Grid ℕ) (spacing : Spacing) (lent : Lent) → refusals-2 targets obstacles spacing lent ≡ passes → T (in-bounds (targets .size))
+unfolding refusals-2
+accepted-2 targets obstacles spacing lent e = (after-shape _ _ _ _ _ e) .0
+
+pub accepted-3 :
+    (targets : Grid ℕ) (times : Grid Float) (cap : Float) (lent : Lent) → refusals-3 targets times cap lent ≡ passes
+    → T (in-bounds (targets .size)) × (isNan cap ≡ false) × (any below-zero (times .cells) ≡ false)
+unfolding refusals-3
+accepted-3 targets times cap lent e =
+    let (bounds, others, e) = after-shape _ _ _ _ _ e in
+    let (limit, e) = not-held _ _ e in
+    (bounds, limit, (not-held _ _ e) .0)
+
+pub accepted-4 : (targets : Grid ℕ) (values : Grid Float) (lent : Lent) → refusals-4 targets values lent ≡ passes → T (in-bounds (targets .size))
+unfolding refusals-4
+accepted-4 targets values lent e = (after-shape _ _ _ _ _ e) .0
+
+pub accepted-5 :
+    (targets : Grid ℕ) (times values : Grid Float) (lent : Lent) → refusals-5 targets times values lent ≡ passes
+    → T (in-bounds (targets .size)) × (any below-zero (times .cells) ≡ false)
+unfolding refusals-5
+accepted-5 targets times values lent e =
+    let (bounds, others, e) = after-shape _ _ _ _ _ e in
+    (bounds, (not-held _ _ e) .0)
+
+pub accepted-6 :
+    (targets : Grid ℕ) (times values : Grid Float) (limit : Float) (lent : Lent) → refusals-6 targets times values limit lent ≡ passes
+    → T (in-bounds (targets .size)) × (isNan limit ≡ false) × (any below-zero (times .cells) ≡ false)
+unfolding refusals-6
+accepted-6 targets times values limit lent e =
+    let (bounds, others, e) = after-shape _ _ _ _ _ e in
+    let (number, e) = not-held _ _ e in
+    (bounds, number, (not-held _ _ e) .0)
+
+-- Of 7 both the mask and the times are in bounds.
+pub accepted-7 :
+    (mask : Grid ℕ) (times values : Grid Float) (budget : Float) (lent : Lent) → refusals-7 mask times values budget lent ≡ passes
+    → T (in-bounds (mask .size)) × T (in-bounds (times .size)) × (isNan budget ≡ false) × (le budget plus-zero ≡ false) × (any below-zero (times .cells) ≡ false)
+unfolding refusals-7 any
+accepted-7 mask times values budget lent e =
+    let (bounds, others, e) = after-shape _ _ _ _ _ e in
+    let (bad, e) = not-held _ _ e in
+    let (number, above) = neither (isNan budget) (le budget plus-zero) bad in
+    (bounds, not-false (in-bounds (times .size)) ((neither _ _ others) .0), number, above, (not-held _ _ e) .0)
+
+pub accepted-8 :
+    (times amounts : Grid Float) (budget : Float) (lent : Lent) → refusals-8 times amounts budget lent ≡ passes
+    → T (in-bounds (times .size)) × (isNan budget ≡ false) × (le budget plus-zero ≡ false) × (any below-zero (times .cells) ≡ false)
+unfolding refusals-8
+accepted-8 times amounts budget lent e =
+    let (bounds, others, e) = after-shape _ _ _ _ _ e in
+    let (bad, e) = not-held _ _ e in
+    let (number, above) = neither (isNan budget) (le budget plus-zero) bad in
+    (bounds, number, above, (not-held _ _ e) .0)
