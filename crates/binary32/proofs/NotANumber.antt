@@ -3,7 +3,7 @@ use mathlib.Core.Path.{_≡_, refl}
 use mathlib.Core.Bool.{Bool, true, false, not, _&&_, false≢true}
 use Prim.Native.Nat.{_*_}
 use lib.Dec.{T, eqb, eqb-refl}
-use lib.Ieee.{Float, nan, inf, fin, up, down, ne, isNan}
+use lib.Ieee.{Float, nan, inf, fin, up, down, lt, ne, isNan}
 
 same-number : (b : Bool) → T b → not (b && true) ≡ false
 same-number true t = refl
@@ -24,3 +24,10 @@ unfolding isNan
 isNan→nan nan h = refl
 isNan→nan (inf s) h = absurd (false≢true h)
 isNan→nan (fin s m e) h = absurd (false≢true h)
+
+-- Nothing is below a NaN.
+pub none-below-nan : (x : Float) → lt x nan ≡ false
+unfolding lt
+none-below-nan nan = refl
+none-below-nan (inf s) = refl
+none-below-nan (fin s m e) = refl

@@ -11,4 +11,5 @@ pub mod Labels
 pub mod LeastSums
 pub mod Taken
 pub mod Search
+pub mod Simulation
 pub mod Instance

@@ -1,3 +1,4 @@
 pub mod Machine
 pub mod Walk
 pub mod Laws
+pub mod Simulation
