@@ -1,0 +1,187 @@
+-- Rows and columns, signed as the code has them, against the grid's edges: a step of at most one fits, and what is between the edges is a
+-- natural number, whose index is below the number of cells. Assumes nothing.
+use mathlib.Core.Path.{_≡_, refl, ap, _∙_}
+use mathlib.Core.Bool.{Bool, true, false, cond}
+use mathlib.Core.List.{[]}
+use Prim.Native.Nat.{ℕ, zero, suc, _+_, _-_, _*_, _/_, _%_, _≤_, _<_}
+use native.Mathlib.Nat.{lt-of-lt-of-le, mul-zero, mod-lt, div-lt-iff-lt-mul}
+use native.Mathlib.Omega.{arith}
+use lib.Arith.{digits-lt}
+use lib.Dec.{T, leb, ltb, ltb→lt, lt→ltb, le→leb}
+use lib.IntN.{ℤ, pos, negsuc, natAbs, _+ℤ_, _*ℤ_}
+use lib.ListN.{getD}
+use lib.Signed.{mag, leZ, ltZ, nonNeg}
+use mir.Syntax.{w32}
+use mir.Val.{Fits, SFits, toZ}
+use mir.Facts.{toZ-ofZ, and-yes, yes-and}
+use Rattle.rules.specs.declared.Size.{Size}
+use Rattle.rules.specs.Sizes.{count}
+use Rattle.rules.specs.Cells.{offsets, index, row-of, col-of, within}
+use Rattle.cells.proofs.Bounds.{cells-max, Side, Bounded, read, side-read, cast-is, and-then, and-not, product-fits, product-read}
+
+-- ---- between the edges
+
+-- k is 0 to end - 1.
+pub record Inside (end k : ℤ) : Type 0 where
+  pub is-mag : k ≡ pos (mag k)
+  pub less : mag k < mag end
+
+pub inside : (end k : ℤ) → T (within end k) → Inside end k
+inside (pos e) (pos n) between = record { is-mag = refl; less = ltb→lt n e (and-yes (leb 0 n) (ltb n e) between .1) }
+inside (negsuc e) (pos n) between = absurd (and-yes (leb 0 n) false between .1)
+inside (pos e) (negsuc n) between = absurd between
+inside (negsuc e) (negsuc n) between = absurd between
+
+-- A natural number below a side is between the edges.
+pub between : {end : ℤ} (n : ℕ) → Side end → n < mag end → T (within end (pos n))
+between {end} n end-side less = rw (end-side .is-mag) (yes-and (leb 0 n) (ltb n (mag end)) (le→leb 0 n (omega arith)) (lt→ltb n (mag end) less))
+
+-- What is between the edges is small enough to be a side itself.
+pub small : {end k : ℤ} → Side end → Inside end k → Side k
+small {end} {k} end-side k-in = let most = end-side .most in let less = k-in .less in record { is-mag = k-in .is-mag; most = omega arith }
+
+-- The test of the code.
+module _ {end k : ℤ} (end-fits : SFits w32 end) (k-fits : SFits w32 k) where
+  pub inside-both : leZ (pos 0) (read k) ≡ true → ltZ (read k) (read end) ≡ within end k
+  inside-both first = rw (toZ-ofZ k-fits, toZ-ofZ end-fits) (and-then (leZ (pos 0) k) (ltZ k end) (rw (toZ-ofZ k-fits) at first))
+
+  pub inside-first : leZ (pos 0) (read k) ≡ false → leZ (pos 0) (read k) ≡ within end k
+  inside-first first = rw (toZ-ofZ k-fits) (and-not (leZ (pos 0) k) (ltZ k end) (rw (toZ-ofZ k-fits) at first))
+
+-- ---- a step of the table
+
+-- An entry of the table: stay, go on, or go back.
+data Step : ℤ → Type 0 where
+  stay : Step (pos 0)
+  on : Step (pos 1)
+  back : Step (negsuc 0)
+
+-- The i-th offset's part for rows, and for columns. Past the table both stay.
+abbrev pub row-offset : ℕ → ℤ
+row-offset i = getD (getD offsets i []) 0 (pos 0)
+
+abbrev pub col-offset : ℕ → ℤ
+col-offset i = getD (getD offsets i []) 1 (pos 0)
+
+steps : (i : ℕ) → Step (row-offset i) × Step (col-offset i)
+steps zero = (stay, on)
+steps (suc zero) = (stay, back)
+steps (suc (suc zero)) = (on, stay)
+steps (suc (suc (suc zero))) = (back, stay)
+steps (suc (suc (suc (suc zero)))) = (on, on)
+steps (suc (suc (suc (suc (suc zero))))) = (back, on)
+steps (suc (suc (suc (suc (suc (suc zero)))))) = (on, back)
+steps (suc (suc (suc (suc (suc (suc (suc zero))))))) = (back, back)
+steps (suc (suc (suc (suc (suc (suc (suc (suc i)))))))) = (stay, stay)
+
+step-read : {d : ℤ} → Step d → read d ≡ d
+step-read stay = refl
+step-read on = refl
+step-read back = refl
+
+mag-back : (n : ℕ) → mag (pos n +ℤ negsuc 0) ≤ n + 1
+mag-back n = go (ltb n 1)
+  where
+    go : (t : Bool) → mag (cond t (negsuc (1 - suc n)) (pos (n - 1))) ≤ n + 1
+    go true = omega arith
+    go false = omega arith
+
+step-small : (n : ℕ) {d : ℤ} → Step d → mag (pos n +ℤ d) ≤ n + 1
+step-small n stay = omega arith
+step-small n on = omega arith
+step-small n back = mag-back n
+
+-- One step from a row, or a column, of the grid fits, and is read back as it is.
+module _ {k d : ℤ} (k-side : Side k) (step : Step d) where
+  moved : read k +ℤ read d ≡ k +ℤ d
+  moved = rw (side-read k-side, step-read step, ← k-side .is-mag)
+
+  moved-fits : SFits w32 (k +ℤ d)
+  moved-fits = let most = k-side .most in rw (k-side .is-mag) (record { sfits = let small = step-small (mag k) step in omega arith })
+
+module _ {end k : ℤ} (end-side : Side end) (k-in : Inside end k) (i : ℕ) where
+  pub row-moved-fits : SFits w32 (read k +ℤ read (row-offset i))
+  row-moved-fits = rw (moved (small end-side k-in) (steps i .0)) (moved-fits (small end-side k-in) (steps i .0))
+
+  pub row-moved : read (read k +ℤ read (row-offset i)) ≡ k +ℤ row-offset i
+  row-moved = toZ-ofZ row-moved-fits ∙ moved (small end-side k-in) (steps i .0)
+
+  pub col-moved-fits : SFits w32 (read k +ℤ read (col-offset i))
+  col-moved-fits = rw (moved (small end-side k-in) (steps i .1)) (moved-fits (small end-side k-in) (steps i .1))
+
+  pub col-moved : read (read k +ℤ read (col-offset i)) ≡ k +ℤ col-offset i
+  col-moved = toZ-ofZ col-moved-fits ∙ moved (small end-side k-in) (steps i .1)
+
+-- ---- the index
+
+-- A row and a column between the edges have an index below the number of cells.
+pub index-below : (size : Size) (row col : ℕ) → row < mag (size .rows) → col < mag (size .cols) → index size row col < count size
+index-below size row col row-less col-less = digits-lt row-less col-less
+
+module _ (size : Size) (bounds : Bounded size) {row col : ℤ} (row-in : Inside (size .rows) row) (col-in : Inside (size .cols) col) where
+  index-small : index size (mag row) (mag col) < cells-max
+  index-small = lt-of-lt-of-le (index-below size (mag row) (mag col) (row-in .less) (col-in .less)) (bounds .cells-most)
+
+  row-side : Side row
+  row-side = small (bounds .rows-side) row-in
+
+  col-side : Side col
+  col-side = small (bounds .cols-side) col-in
+
+  pub row-product-fits : SFits w32 (read row *ℤ read (size .cols))
+  row-product-fits = product-fits row-side (bounds .cols-side)
+
+  index-sum : read (read row *ℤ read (size .cols)) +ℤ read col ≡ pos (index size (mag row) (mag col))
+  index-sum = rw (product-read row-side (bounds .cols-side), side-read col-side)
+
+  pub index-sum-fits : SFits w32 (read (read row *ℤ read (size .cols)) +ℤ read col)
+  index-sum-fits = rw index-sum (record { sfits = let bound = index-small in omega arith })
+
+  index-read : read (read (read row *ℤ read (size .cols)) +ℤ read col) ≡ pos (index size (mag row) (mag col))
+  index-read = toZ-ofZ index-sum-fits ∙ index-sum
+
+  pub index-cast :
+      T (nonNeg (read (read (read row *ℤ read (size .cols)) +ℤ read col)))
+      × Fits w32 (natAbs (read (read (read row *ℤ read (size .cols)) +ℤ read col)))
+  index-cast = rw index-read (tt, record { fits = let bound = index-small in omega arith })
+
+  pub index-is : natAbs (read (read (read row *ℤ read (size .cols)) +ℤ read col)) ≡ index size (mag row) (mag col)
+  index-is = ap natAbs index-read
+
+-- ---- a cell's row and column
+
+module _ (size : Size) (bounds : Bounded size) (u : ℕ) (below : u < count size) where
+  pub cols-some : 0 < mag (size .cols)
+  cols-some = go (mag (size .cols)) below
+    where
+      go : (n : ℕ) → u < mag (size .rows) * n → 0 < n
+      go zero h = let none : u < 0 = rw (← mul-zero (mag (size .rows))) h in omega arith
+      go (suc n) h = omega arith
+
+  pub row-less : row-of size u < mag (size .rows)
+  row-less = div-lt-iff-lt-mul cols-some .1 below
+
+  pub col-less : col-of size u < mag (size .cols)
+  col-less = mod-lt u cols-some
+
+  pub row-between : T (within (size .rows) (pos (row-of size u)))
+  row-between = between (row-of size u) (bounds .rows-side) row-less
+
+  pub col-between : T (within (size .cols) (pos (col-of size u)))
+  col-between = between (col-of size u) (bounds .cols-side) col-less
+
+  -- The two as the code has them, by the columns without their sign.
+  pub cols-cast-some : 0 < natAbs (read (size .cols))
+  cols-cast-some = rw (cast-is (bounds .cols-side)) cols-some
+
+  pub row-cast-fits : SFits w32 (pos (u / natAbs (read (size .cols))))
+  row-cast-fits = rw (cast-is (bounds .cols-side)) (record { sfits = let most = bounds .rows-side .most in let less = row-less in omega arith })
+
+  pub col-cast-fits : SFits w32 (pos (u % natAbs (read (size .cols))))
+  col-cast-fits = rw (cast-is (bounds .cols-side)) (record { sfits = let most = bounds .cols-side .most in let less = col-less in omega arith })
+
+  pub row-cast : toZ w32 (u / natAbs (read (size .cols))) ≡ pos (row-of size u)
+  row-cast = toZ-ofZ row-cast-fits ∙ rw (cast-is (bounds .cols-side))
+
+  pub col-cast : toZ w32 (u % natAbs (read (size .cols))) ≡ pos (col-of size u)
+  col-cast = toZ-ofZ col-cast-fits ∙ rw (cast-is (bounds .cols-side))

@@ -1,0 +1,7 @@
+-- The laws of this crate, for its own proofs and for those of the crates above it.
+pub mod Bounds
+pub mod Edges
+pub mod Storing
+pub mod NeighbourLists
+pub mod NeighbourArray
+pub mod RingContents

@@ -1,0 +1,236 @@
+-- The array that the code fills, and the struct that it becomes: they hold the neighbours in trying order, and nothing else.
+-- Assumes nothing.
+use mathlib.Core.Path.{_≡_, refl, sym, ap, _∙_}
+use mathlib.Core.Logic.{_⊎_, inl, inr}
+use mathlib.Core.List.{List, [], _∷_, _++_, append-assoc}
+use Prim.Native.Nat.{ℕ, zero, suc, _+_, _-_, _≤_, _<_, zero-le}
+use native.Mathlib.Nat.{lt-irrefl, lt-of-le-of-lt, le-of-suc-le-suc, not-suc-le-zero}
+use native.Mathlib.Omega.{arith}
+use lib.ListN.{length, getD, take, drop, replicate, length-append, length-replicate, length-drop, take-append-drop}
+use lib.Seq.{sets, sets-eq, take-append-seam, drop-append-seam, drop-append-add, length-take-le, drop-drop, getD-take, getD-drop}
+use Rattle.fifo.specs.Walk.{In}
+use Rattle.rules.specs.declared.Size.{Size}
+use Rattle.rules.specs.Sizes.{count}
+use Rattle.rules.specs.Cells.{offsets, neighbour, neighbours, straight-neighbours, diagonal-neighbours}
+use Rattle.cells.specs.Neighbours.{Neighbours, Lists, CellOf}
+use Rattle.cells.proofs.NeighbourLists.{neighbours-below, not-own-straight, not-own-diagonal, straight-split, neighbours-split, one-more, at-most-one}
+
+-- ---- the array that is filled
+
+abbrev zeros : ℕ → List ℕ
+zeros n = replicate n 0
+
+-- A list of cells in an array of eight, with 0 behind it.
+abbrev padded : List ℕ → List ℕ
+padded found = found ++ zeros (8 - length found)
+
+drop-zeros : (k n : ℕ) → drop k (zeros n) ≡ zeros (n - k)
+drop-zeros zero n = let left : n ≡ n - 0 = omega arith in ap zeros left
+drop-zeros (suc k) zero = let left : 0 ≡ 0 - suc k = omega arith in ap zeros left
+drop-zeros (suc k) (suc n) = let left : n - k ≡ suc n - suc k = omega arith in drop-zeros k n ∙ ap zeros left
+
+padded-long : (found : List ℕ) → length found ≤ 8 → length (padded found) ≡ 8
+padded-long found most = simp (length-append, length-replicate) (omega arith)
+
+-- Cells that are stored behind those that were found.
+padded-more : (found more : List ℕ) → length found + length more ≤ 8 → sets (padded found) (length found) more ≡ padded (found ++ more)
+padded-more found more most =
+    let behind = zeros (8 - length found) in
+    let left : 8 - length found - length more ≡ 8 - length (found ++ more) = rw (length-append found more) (omega arith) in
+    sets-eq more (padded found) (length found) (rw (padded-long found (omega arith)) most)
+    ∙ ap (λ (l : List ℕ). l ++ more ++ drop (length found + length more) (padded found)) (take-append-seam found behind)
+    ∙ ap (λ (l : List ℕ). found ++ more ++ l) (drop-append-add found behind (length more) ∙ drop-zeros (length more) (8 - length found) ∙ ap zeros left)
+
+-- ---- the loop
+
+-- After i offsets: what was found among them is in the array, and counted; two and four offsets on their counts were recorded.
+pub record Filled (size : Size) (u : ℕ) (cells : List ℕ) (sideways straight found i : ℕ) : Type 0 where
+  pub tried : i ≤ 8
+  pub cells-are : cells ≡ padded (neighbours size u (take i offsets))
+  pub found-is : found ≡ length (neighbours size u (take i offsets))
+  pub few : found ≤ i
+  pub sideways-is : 2 ≤ i → sideways ≡ length (neighbours size u (take 2 offsets))
+  pub straight-is : 4 ≤ i → straight ≡ length (straight-neighbours size u)
+
+-- A count is recorded where k offsets have been tried, and otherwise stays.
+abbrev pub Recorded : ℕ → ℕ → ℕ → ℕ → ℕ → Type 0
+Recorded k tried found old new = ((tried ≡ k) × (new ≡ found)) ⊎ ((tried ≡ k → ⊥) × (new ≡ old))
+
+module _ (size : Size) (u : ℕ) where
+  pub none-filled : Filled size u (zeros 8) 0 0 0 0
+  unfolding neighbours
+  none-filled =
+      record {
+        tried = omega arith;
+        cells-are = refl;
+        found-is = refl;
+        few = omega arith;
+        sideways-is = λ late. absurd (lt-irrefl 0 (omega arith));
+        straight-is = λ late. absurd (lt-irrefl 0 (omega arith));
+      }
+
+  recorded :
+      (k i : ℕ) {found old new : ℕ} → (k ≤ i → old ≡ length (neighbours size u (take k offsets))) → found ≡ length (neighbours size u (take (i + 1) offsets))
+      → Recorded k (i + 1) found old new → k ≤ i + 1 → new ≡ length (neighbours size u (take k offsets))
+  recorded k i before found-is (inl now) late = now .1 ∙ found-is ∙ ap (λ (n : ℕ). length (neighbours size u (take n offsets))) (now .0)
+  recorded k i before found-is (inr other) late = let still-late : k ≤ i = le-of-other (other .0) late in other .1 ∙ before still-late
+    where
+      le-of-other : (i + 1 ≡ k → ⊥) → k ≤ i + 1 → k ≤ i
+      le-of-other differs most = omega arith
+
+  -- One offset more. Proof: the array behind those that were found is 0, so that storing there appends.
+  pub more-filled :
+      {cells cells′ : List ℕ} {sideways straight found i found′ sideways′ straight′ : ℕ} → Filled size u cells sideways straight found i → i < 8
+      → cells′ ≡ sets cells found (neighbour size u (getD offsets i [])) → found′ ≡ found + length (neighbour size u (getD offsets i []))
+      → Recorded 2 (i + 1) found′ sideways sideways′ → Recorded 4 (i + 1) found′ straight straight′
+      → Filled size u cells′ sideways′ straight′ found′ (i + 1)
+  more-filled {cells} {found = found} {i = i} {found′ = found′} before less stored counted at-two at-four =
+      let so-far = neighbours size u (take i offsets) in
+      let here = neighbour size u (getD offsets i []) in
+      let few = before .few in
+      let one = at-most-one size u (getD offsets i []) in
+      let so-far-is = before .found-is in
+      let found′-is : found′ ≡ length (neighbours size u (take (i + 1) offsets)) = counted ∙ rw (one-more size u i less, length-append, so-far-is) in
+      record {
+        tried = omega arith;
+        cells-are =
+            stored
+            ∙ ap (λ (l : List ℕ). sets l found here) (before .cells-are) ∙ ap (λ (k : ℕ). sets (padded so-far) k here) so-far-is
+            ∙ padded-more so-far here (omega arith) ∙ ap padded (sym (one-more size u i less));
+        found-is = found′-is;
+        few = omega arith;
+        sideways-is = recorded 2 i (before .sideways-is) found′-is at-two;
+        straight-is = recorded 4 i (before .straight-is) found′-is at-four;
+      }
+
+-- ---- the struct
+
+-- An entry of the array, or past it, is a cell that was found, or 0.
+padded-below : (bound : ℕ) → 0 < bound → (found : List ℕ) → ((v : ℕ) → In v found → v < bound) → (n k : ℕ) → getD (found ++ zeros n) k 0 < bound
+padded-below bound some [] each zero k = some
+padded-below bound some [] each (suc n) zero = some
+padded-below bound some [] each (suc n) (suc k) = padded-below bound some [] each n k
+padded-below bound some (v ∷ found) each n zero = each v (inl refl)
+padded-below bound some (v ∷ found) each n (suc k) = padded-below bound some found (λ w later. each w (inr later)) n k
+
+-- A list in three parts, each read off by the counts up to its ends, with the rest behind them.
+module _ (a b d rest : List ℕ) where
+  first-part : take (length a) (a ++ b ++ d ++ rest) ≡ a
+  first-part = rw (append-assoc (a ++ b) d rest, append-assoc a b (d ++ rest)) (take-append-seam a (b ++ (d ++ rest)))
+
+  two-parts : take (length (a ++ b)) (a ++ b ++ d ++ rest) ≡ a ++ b
+  two-parts = rw (append-assoc (a ++ b) d rest) (take-append-seam (a ++ b) (d ++ rest))
+
+  third-part : take (length (a ++ b ++ d) - length (a ++ b)) (drop (length (a ++ b)) (a ++ b ++ d ++ rest)) ≡ d
+  third-part =
+      let left : length (a ++ b ++ d) - length (a ++ b) ≡ length d = rw (length-append (a ++ b) d) (omega arith) in
+      rw (left, append-assoc (a ++ b) d rest, drop-append-seam (a ++ b) (d ++ rest)) (take-append-seam d rest)
+
+  behind-parts : drop (length (a ++ b ++ d)) (a ++ b ++ d ++ rest) ≡ rest
+  behind-parts = drop-append-seam (a ++ b ++ d) rest
+
+-- Where all eight offsets have been tried, the struct lists the neighbours. Proof: the straight ones begin with those right and left, the
+-- diagonal ones follow, and behind them the array is 0. The recorded counts are the lengths up to those ends.
+pub all-filled :
+    {size : Size} {u : ℕ} {cells : List ℕ} {sideways straight found : ℕ} → CellOf size u → Filled size u cells sideways straight found 8
+    → Lists size u (record { cells = cells; sideways = sideways; straight = straight; count = found })
+all-filled {size} {u} {cells} {sideways} {straight} {found} cell filled =
+    let a = neighbours size u (take 2 offsets) in
+    let b = neighbours size u (take 2 (drop 2 offsets)) in
+    let d = diagonal-neighbours size u in
+    let parts : neighbours size u offsets ≡ a ++ b ++ d = neighbours-split size u ∙ ap (λ (l : List ℕ). l ++ d) (straight-split size u) in
+    let rest = zeros (8 - length (a ++ b ++ d)) in
+    let cells-are : cells ≡ a ++ b ++ d ++ rest = filled .cells-are ∙ ap padded parts in
+    let found-is : found ≡ length (a ++ b ++ d) = filled .found-is ∙ ap length parts in
+    let sideways-is = filled .sideways-is (omega arith) in
+    let straight-is : straight ≡ length (a ++ b) = filled .straight-is (omega arith) ∙ ap length (straight-split size u) in
+    let few = filled .few in
+    let long : length (a ++ b) ≡ length a + length b = length-append a b in
+    let longer : length (a ++ b ++ d) ≡ length (a ++ b) + length d = length-append (a ++ b) d in
+    record {
+      right-left = rw (sideways-is, cells-are) (first-part a b d rest);
+      straight-ones = rw (straight-is, cells-are) (two-parts a b d rest ∙ sym (straight-split size u));
+      diagonal-ones = rw (straight-is, found-is, cells-are) (third-part a b d rest);
+      rest = rw (found-is, cells-are) (behind-parts a b d rest);
+      eight = rw cells-are (padded-long (a ++ b ++ d) (omega arith));
+      sideways-most = omega arith;
+      straight-most = omega arith;
+      count-most = omega arith;
+      inside =
+          let all = neighbours size u offsets in
+          let below = padded-below (count size) (lt-of-le-of-lt zero-le (cell .below)) all (neighbours-below size u offsets) (8 - length all) in
+          λ k. rw (filled .cells-are) (below k);
+    }
+
+-- ---- what the struct says
+
+in-at : (l : List ℕ) (k : ℕ) → k < length l → In (getD l k 0) l
+in-at [] k less = absurd (not-suc-le-zero less)
+in-at (v ∷ l) zero less = inl refl
+in-at (v ∷ l) (suc k) less = inr (in-at l k (le-of-suc-le-suc less))
+
+-- Where a list begins with a part, the part's length is where it ends.
+begins : (k : ℕ) (l part : List ℕ) → k ≤ length l → take k l ≡ part → k ≡ length part
+begins k l part most e = sym (length-take-le k l most) ∙ ap length e
+
+module _ {size : Size} {u : ℕ} {r : Neighbours} (lists : Lists size u r) where
+  -- The order of the counts, for `omega` to read.
+  ordered : (r .sideways ≤ r .straight) × (r .straight ≤ r .count) × (r .count ≤ 8) × (length (r .cells) ≡ 8)
+  ordered = (lists .sideways-most, lists .straight-most, lists .count-most, lists .eight)
+
+  pub sideways-long : r .sideways ≡ length (neighbours size u (take 2 offsets))
+  sideways-long = let order = ordered in begins (r .sideways) (r .cells) (neighbours size u (take 2 offsets)) (omega arith) (lists .right-left)
+
+  pub straight-long : r .straight ≡ length (straight-neighbours size u)
+  straight-long = let order = ordered in begins (r .straight) (r .cells) (straight-neighbours size u) (omega arith) (lists .straight-ones)
+
+  pub count-long : r .count ≡ length (straight-neighbours size u) + length (diagonal-neighbours size u)
+  count-long =
+      let order = ordered in
+      let behind : length (drop (r .straight) (r .cells)) ≡ length (r .cells) - r .straight = length-drop (r .straight) (r .cells) in
+      let left = begins (r .count - r .straight) (drop (r .straight) (r .cells)) (diagonal-neighbours size u) (omega arith) (lists .diagonal-ones) in
+      let first = straight-long in
+      omega arith
+
+  cells-whole : r .cells ≡ straight-neighbours size u ++ (diagonal-neighbours size u ++ zeros (8 - r .count))
+  cells-whole =
+      let order = ordered in
+      let up-to : r .straight + (r .count - r .straight) ≡ r .count = omega arith in
+      let behind = drop (r .straight) (r .cells) in
+      sym (take-append-drop (r .straight) (r .cells))
+      ∙ ap (λ (l : List ℕ). take (r .straight) (r .cells) ++ l) (sym (take-append-drop (r .count - r .straight) behind))
+      ∙ rw (lists .straight-ones, lists .diagonal-ones, drop-drop (r .count - r .straight) (r .straight) (r .cells), up-to, lists .rest)
+
+  -- The k-th straight neighbour is the k-th entry, and the k-th diagonal one the k-th entry behind the straight ones.
+  pub straight-entry : (k : ℕ) → k < r .straight → getD (straight-neighbours size u) k 0 ≡ getD (r .cells) k 0
+  straight-entry k less = ap (λ (l : List ℕ). getD l k 0) (sym (lists .straight-ones)) ∙ getD-take (r .straight) (r .cells) k 0 less
+
+  pub diagonal-entry : (k : ℕ) → k < r .count - r .straight → getD (diagonal-neighbours size u) k 0 ≡ getD (r .cells) (r .straight + k) 0
+  diagonal-entry k less =
+      ap (λ (l : List ℕ). getD l k 0) (sym (lists .diagonal-ones))
+      ∙ getD-take (r .count - r .straight) (drop (r .straight) (r .cells)) k 0 less ∙ getD-drop (r .straight) (r .cells) k 0
+
+  -- No entry up to the count is the cell itself.
+  pub straight-entry-other : (k : ℕ) → k < r .straight → getD (r .cells) k 0 ≡ u → ⊥
+  straight-entry-other k less =
+      let first = straight-long in
+      let here : In (getD (straight-neighbours size u) k 0) (straight-neighbours size u) = in-at (straight-neighbours size u) k (omega arith) in
+      rw (straight-entry k less) at (not-own-straight size u (getD (straight-neighbours size u) k 0) here)
+
+  pub diagonal-entry-other : (k : ℕ) → k < r .count - r .straight → getD (r .cells) (r .straight + k) 0 ≡ u → ⊥
+  diagonal-entry-other k less =
+      let first = straight-long in
+      let all = count-long in
+      let here : In (getD (diagonal-neighbours size u) k 0) (diagonal-neighbours size u) = in-at (diagonal-neighbours size u) k (omega arith) in
+      rw (diagonal-entry k less) at (not-own-diagonal size u (getD (diagonal-neighbours size u) k 0) here)
+
+-- The size and the cell decide the struct. Proof: its counts are the lengths of the lists, and its array is the straight ones, the diagonal
+-- ones and zeros.
+pub lists-decided : {size : Size} {u : ℕ} {r s : Neighbours} → Lists size u r → Lists size u s → r ≡ s
+lists-decided {size} {u} {r} {s} first second =
+    let sideways-same = sideways-long first ∙ sym (sideways-long second) in
+    let straight-same = straight-long first ∙ sym (straight-long second) in
+    let count-same = count-long first ∙ sym (count-long second) in
+    let tail : ℕ → List ℕ = λ n. straight-neighbours size u ++ (diagonal-neighbours size u ++ zeros (8 - n)) in
+    let cells-same : r .cells ≡ s .cells = cells-whole first ∙ ap tail count-same ∙ sym (cells-whole second) in
+    λ i. record { cells = cells-same i; sideways = sideways-same i; straight = straight-same i; count = count-same i }

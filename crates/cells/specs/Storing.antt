@@ -1,0 +1,28 @@
+-- What the inner functions of the neighbours' list are asked and promise. Definitions only.
+use mathlib.Core.Path.{_≡_}
+use mathlib.Core.List.{List, []}
+use Prim.Native.Nat.{ℕ, _+_, _<_}
+use lib.Dec.{T}
+use lib.IntN.{ℤ, pos}
+use lib.ListN.{length, getD}
+use lib.Seq.{sets}
+use Rattle.rules.specs.declared.Size.{Size}
+use Rattle.rules.specs.Sizes.{in-bounds}
+use Rattle.rules.specs.Cells.{offsets, row-of, col-of, within, neighbour}
+
+-- The size is within the bounds, and the row and the column are between the grid's edges.
+pub record InGrid (size : Size) (row col : ℤ) : Type 0 where
+  pub bounds : T (in-bounds size)
+  pub row-in : T (within (size .rows) row)
+  pub col-in : T (within (size .cols) col)
+
+-- What storing one neighbour starts from: a place in the grid, the i-th offset, and a free entry.
+pub record Storing (size : Size) (row col : ℤ) (found i : ℕ) : Type 0 where
+  pub place : InGrid size row col
+  pub offset-in : i < 8
+  pub free : found < 8
+
+-- Of the cell at that row and column, the neighbour at the i-th offset is stored behind those that were found, and counted.
+pub record Stored (size : Size) (row col : ℤ) (i : ℕ) (cells : List ℕ) (found : ℕ) (cells′ : List ℕ) (found′ : ℕ) : Type 0 where
+  pub stored : (u : ℕ) → row ≡ pos (row-of size u) → col ≡ pos (col-of size u) → cells′ ≡ sets cells found (neighbour size u (getD offsets i []))
+  pub counted : (u : ℕ) → row ≡ pos (row-of size u) → col ≡ pos (col-of size u) → found′ ≡ found + length (neighbour size u (getD offsets i []))

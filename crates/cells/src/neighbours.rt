@@ -1,0 +1,100 @@
+// A cell's neighbours, in the order in which they are tried.
+use rules::Size;
+ghost use mathlib.Core.Path.{_≡_};
+ghost use lib.Signed.{mag};
+ghost use Rattle.rules.specs.Cells as Cells;
+ghost use Rattle.cells.specs.Neighbours.{CellOf, Lists};
+ghost use Rattle.cells.specs.Storing.{InGrid, Storing, Stored};
+
+// The offsets of the neighbours, row and column each, in the order in which they are tried.
+pub const OFFSETS: [[i32; 2]; 8] = [
+    [0, 1], // right
+    [0, -1], // left
+    [1, 0], // below
+    [-1, 0], // above
+    [1, 1], // below right
+    [-1, 1], // above right
+    [1, -1], // below left
+    [-1, -1], // above left
+];
+
+// The neighbours that there are, the straight ones first. Up to `sideways` they are right and left, up
+// to `straight` below and above, up to `count` diagonal.
+pub struct Neighbours {
+    pub cells: [u32; 8],
+    pub sideways: usize,
+    pub straight: usize,
+    pub count: usize,
+}
+
+// Whether k is one of the rows, or columns, before `end`.
+fn inside(end: i32, k: i32) -> bool
+    ensures { λ r. ⌜ r ≡ Cells.within end k ⌝ }
+{
+    0 <= k && k < end
+}
+
+// The index of the cell at a row and a column.
+fn index(size: Size, row: i32, col: i32) -> u32
+    requires { ⌜ InGrid size row col ⌝ }
+    ensures { λ r. ⌜ r ≡ Cells.index size (mag row) (mag col) ⌝ }
+{
+    (row * size.cols + col) as u32
+}
+
+// Stores the neighbour at the i-th offset from a row and a column, where it is in the grid, behind
+// those that were found. Both edges are tested before the row and the column become an index.
+fn store_neighbour(
+    cells: &mut [u32; 8],
+    found: usize,
+    size: Size,
+    row: i32,
+    col: i32,
+    i: usize,
+) -> usize
+    requires { ⌜ Storing size row col found i ⌝ }
+    ensures { λ r. ⌜ Stored size row col i (now (cells .entry)) found (now (cells .exit)) r ⌝ }
+{
+    let offset = OFFSETS[i];
+    let to_row = row + offset[0];
+    let to_col = col + offset[1];
+    if !inside(size.rows, to_row) {
+        return found;
+    }
+    if !inside(size.cols, to_col) {
+        return found;
+    }
+    cells[found] = index(size, to_row, to_col);
+    found + 1
+}
+
+// The neighbours of a cell.
+pub fn neighbours_of(size: Size, cell: u32) -> Neighbours
+    requires { ⌜ CellOf size cell ⌝ }
+    ensures { λ r. ⌜ Lists size cell r ⌝ }
+{
+    let cols = size.cols as u32;
+    let row = (cell / cols) as i32;
+    let col = (cell % cols) as i32;
+    let mut cells = [0u32; 8];
+    let mut sideways: usize = 0;
+    let mut straight: usize = 0;
+    let mut count: usize = 0;
+    let mut i: usize = 0;
+    while i < 8 {
+        count = store_neighbour(&mut cells, count, size, row, col, i);
+        i += 1;
+        if i == 2 {
+            sideways = count;
+        }
+        if i == 4 {
+            straight = count;
+        }
+    }
+    Neighbours {
+        cells,
+        sideways,
+        straight,
+        count,
+    }
+}
