@@ -1,0 +1,41 @@
+-- A promise `told answer ≡ tell outcome` decides the answer: two answers that tell the same are one. Assumes nothing.
+use mathlib.Core.Path.{_≡_, refl, sym, ap, _∙_}
+use mathlib.Core.Bool.{cond}
+use lib.Dec.{eqb}
+use Rattle.rules.specs.Sizes as rules
+use Rattle.rules.specs.Sizes.{number, number-at, Outcome}
+use Rattle.calls.specs.Answer.{Refusal, SizeOutOfBounds, SizesDiffer, WrongLength, BadCellSize, BadLimit, NegativeTime, OverBudget, Answer, Accepted, Refused, refusal-number, Told, refusal, takes, told, tell}
+
+-- From document 01's numbers back to the code's cases. What no case has is sent anywhere.
+refusal-of : rules.Refusal → Refusal
+refusal-of (number k) = cond (eqb k 1) SizeOutOfBounds (cond (eqb k 2) SizesDiffer (cond (eqb k 3) WrongLength (cond (eqb k 4) BadCellSize BadLimit)))
+refusal-of (number-at k i) = cond (eqb k 6) (NegativeTime i) (OverBudget i)
+
+answer-of : Told → Answer
+answer-of (refusal r) = Refused (refusal-of r)
+answer-of (takes t) = Accepted (record { takes = t })
+
+refusal-back : (r : Refusal) → refusal-of (refusal-number r) ≡ r
+unfolding refusal-of
+refusal-back SizeOutOfBounds = refl
+refusal-back SizesDiffer = refl
+refusal-back WrongLength = refl
+refusal-back BadCellSize = refl
+refusal-back BadLimit = refl
+refusal-back (NegativeTime i) = refl
+refusal-back (OverBudget i) = refl
+
+answer-back : (a : Answer) → answer-of (told a) ≡ a
+unfolding answer-of
+answer-back (Accepted counts) = refl
+answer-back (Refused r) = ap Refused (refusal-back r)
+
+-- Different refusals have different numbers or indices.
+pub number-decides : (r s : Refusal) → refusal-number r ≡ refusal-number s → r ≡ s
+number-decides r s same = sym (refusal-back r) ∙ ap refusal-of same ∙ refusal-back s
+
+pub told-decides : (a b : Answer) → told a ≡ told b → a ≡ b
+told-decides a b same = sym (answer-back a) ∙ ap answer-of same ∙ answer-back b
+
+pub outcome-decides : (outcome : Outcome) (a b : Answer) → told a ≡ tell outcome → told b ≡ tell outcome → a ≡ b
+outcome-decides outcome a b a-tells b-tells = told-decides a b (a-tells ∙ sym b-tells)

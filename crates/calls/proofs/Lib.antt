@@ -1,0 +1,11 @@
+-- The laws of this crate, for its own proofs and for those of the crates above it.
+pub mod Turns
+pub mod Scans
+pub mod NumberTests
+pub mod RowScans
+pub mod Judgements
+pub mod Lengths
+pub mod Shapes
+pub mod Decided
+pub mod Untouched
+pub mod Promises

@@ -1,0 +1,64 @@
+-- What is known of sizes and lengths where a call is not refused for them. Assumes nothing.
+use mathlib.Core.Path.{_≡_, sym, ap, _∙_}
+use mathlib.Core.Bool.{Bool, true, false}
+use mathlib.Core.List.{List, [], _∷_, _++_}
+use Prim.Native.Nat.{ℕ, suc}
+use native.Mathlib.Nat.{le-antisymm}
+use borrow.Author.Tests.{not-false, eqb-true}
+use mir.Facts.{and-yes}
+use lib.Dec.{T, leb, eqb, leb→le}
+use lib.IntN.{ℤ, pos, negsuc}
+use Rattle.rules.specs.declared.Size.{Size}
+use Rattle.rules.specs.Sizes.{Refusal, passes, Lent, any, shape, in-bounds, same-number, same-size, count}
+use Rattle.cells.proofs.Bounds.{passed as test-passed}
+use Rattle.calls.specs.Given.{differs, other-than}
+use Rattle.calls.proofs.Scans.{or-fails}
+use Rattle.calls.proofs.Judgements.{Comes, passed}
+
+-- Each of a list is a.
+abbrev pub AllAre : {A : Type 0} → A → List A → Type 0
+AllAre a [] = Unit {0}
+AllAre a (b ∷ rest) = (b ≡ a) × AllAre a rest
+
+-- The size is within the bounds, the other grids have it too, and every slice has its length.
+pub record Shaped (size : Size) (others : List Size) (inputs : List ℕ) (lent : Lent) : Type 0 where
+  pub within : T (in-bounds size)
+  pub alike : AllAre size others
+  pub long : AllAre (count size) (inputs ++ lent .slices)
+  pub queue-long : lent .queue ≡ suc (count size)
+
+-- Where no test finds another than a, all are a.
+all-are : {A : Type 0} {a : A} (test : A → Bool) → ((b : A) → test b ≡ false → b ≡ a) → (xs : List A) → any test xs ≡ false → AllAre a xs
+unfolding any
+all-are test is [] none = tt
+all-are test is (b ∷ xs) none = let parts = or-fails (test b) (any test xs) none in (is b (parts .0), all-are test is xs (parts .1))
+
+same-number-is : (k l : ℤ) → T (same-number k l) → k ≡ l
+same-number-is (pos a) (pos b) e = let both = and-yes (leb a b) (leb b a) e in ap pos (le-antisymm (leb→le a b (both .0)) (leb→le b a (both .1)))
+same-number-is (pos a) (negsuc b) e = absurd e
+same-number-is (negsuc a) (pos b) e = absurd e
+same-number-is (negsuc a) (negsuc b) e = let both = and-yes (leb b a) (leb a b) e in ap negsuc (le-antisymm (leb→le a b (both .1)) (leb→le b a (both .0)))
+
+same-size-is : (a b : Size) → differs a b ≡ false → b ≡ a
+same-size-is a b e =
+    let both = and-yes (same-number (a .rows) (b .rows)) (same-number (a .cols) (b .cols)) (test-passed (not-false (same-size a b) e)) in
+    sym (ap (λ (k : ℤ). record { rows = k; cols = a .cols }) (same-number-is (a .rows) (b .rows) (both .0)) ∙ ap (λ (k : ℤ). record { rows = b .rows; cols = k }) (same-number-is (a .cols) (b .cols) (both .1)))
+
+-- A call that passes the tests has its shape.
+module _ (size : Size) (others : List Size) (inputs : List ℕ) (lent : Lent) (more : List (Bool × Refusal)) (comes : Comes (shape size others inputs lent more) passes) where
+  pub shaped : Shaped size others inputs lent
+  unfolding shape any
+  shaped =
+      let after-1 = passed comes in
+      let after-2 = passed (after-1 .1) in
+      let lengths = or-fails _ _ (passed (after-2 .1) .0) in
+      record {
+        within = test-passed (not-false (in-bounds size) (or-fails _ _ (after-1 .0) .0));
+        alike = all-are (differs size) (same-size-is size) others (after-2 .0);
+        long = all-are (other-than (count size)) (λ l e. eqb-true l (count size) (not-false (eqb l (count size)) e)) (inputs ++ lent .slices) (lengths .0);
+        queue-long = eqb-true (lent .queue) (suc (count size)) (not-false (eqb (lent .queue) (suc (count size))) (lengths .1));
+      }
+
+  pub others-pass : Comes more passes
+  unfolding shape
+  others-pass = passed (passed (passed comes .1) .1) .1

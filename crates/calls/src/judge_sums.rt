@@ -1,0 +1,71 @@
+// The refusals 1 to 6 of the searches for sums within reach.
+use crate::answer::Judged;
+use crate::answer::Refusal;
+use crate::limits::bad_budget;
+use crate::shape::judge_three;
+use crate::shape::judge_two;
+use crate::times::first_negative;
+use rules::Size;
+ghost use mathlib.Core.Path.{_≡_};
+ghost use Rattle.rules.specs.Sums.{refusals-7, refusals-8};
+ghost use Rattle.calls.specs.Answer.{judged-as};
+ghost use Rattle.calls.specs.Given.{grid, lent};
+
+// Search 7, `sum_within_travel_distance`. Refusal 7 is given only once the search runs.
+pub fn judge_7(
+    mask_size: Size,
+    mask: &[u8],
+    times_size: Size,
+    times: &[f32],
+    values_size: Size,
+    values: &[f32],
+    budget: f32,
+    slices: &[usize],
+    queue: usize,
+) -> Judged
+    ensures { λ r. ⌜ judged-as r ≡ refusals-7 (grid «mask_size» (now (mask .entry))) (grid «times_size» (now (times .entry))) (grid «values_size» (now (values .entry))) budget (lent (now (slices .entry)) queue) ⌝ }
+{
+    let shape = judge_three(
+        mask_size,
+        times_size,
+        values_size,
+        &[mask.len(), times.len(), values.len()],
+        slices,
+        queue,
+    );
+    let Judged::Passes = shape else {
+        return shape;
+    };
+    if bad_budget(budget) {
+        return Judged::Stops(Refusal::BadLimit);
+    }
+    first_negative(mask_size, times)
+}
+
+// Search 8, `sum_targets_within_travel_distance`.
+pub fn judge_8(
+    times_size: Size,
+    times: &[f32],
+    amounts_size: Size,
+    amounts: &[f32],
+    budget: f32,
+    slices: &[usize],
+    queue: usize,
+) -> Judged
+    ensures { λ r. ⌜ judged-as r ≡ refusals-8 (grid «times_size» (now (times .entry))) (grid «amounts_size» (now (amounts .entry))) budget (lent (now (slices .entry)) queue) ⌝ }
+{
+    let shape = judge_two(
+        times_size,
+        amounts_size,
+        &[times.len(), amounts.len()],
+        slices,
+        queue,
+    );
+    let Judged::Passes = shape else {
+        return shape;
+    };
+    if bad_budget(budget) {
+        return Judged::Stops(Refusal::BadLimit);
+    }
+    first_negative(times_size, times)
+}
