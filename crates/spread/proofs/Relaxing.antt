@@ -1,0 +1,97 @@
+-- One neighbour is tried: what the code does to the buffers is the machine's relaxation of what they hold. Assumes nothing.
+use mathlib.Core.Bool.{Bool, true, false}
+use mathlib.Core.List.{List}
+use mathlib.Core.Path.{_≡_, refl, sym, ap, _∙_, subst}
+use Prim.Native.Nat.{ℕ, _<_}
+use lib.Ieee.{Float, nan, lt}
+use lib.ListN.{length, getD, set, length-set}
+use Rattle.cells.specs.Ring.{contents}
+use Rattle.cells.specs.declared.ring.Ring.{Ring}
+use Rattle.fifo.specs.Machine.{Net, State, joined, label, store, relax}
+use Rattle.fifo.proofs.Induction.{labels-store, waiting-store, relax-stores, relax-leaves}
+use Rattle.rules.specs.Sizes.{count}
+use Rattle.rules.specs.Values.{Carried, nearer}
+use Rattle.spread.specs.declared.search.Search.{Search}
+use Rattle.spread.specs.declared.relax.Left.{Left}
+use Rattle.spread.specs.Nets.{carries, labels-of}
+use Rattle.spread.specs.Steps.{formula, entering, labelled}
+use Rattle.spread.specs.Waiting.{Waiting, Joining, Joined}
+use Rattle.spread.specs.Buffers.{Buffers, buffers, Good, Holds, Does, storing, relaxing, carried-on}
+use Rattle.spread.specs.Loop.{left-label, Trying}
+use Rattle.spread.proofs.Labels.{label-held, labels-stored, length-carried-on, not-carried-on}
+
+module _ {search : Search} {v : ℕ} {distances carried : List Float} {marks queue : List ℕ} {ring : Ring} (tries : Trying search v (buffers distances carried marks queue ring)) where
+  pub distance-inside : v < length distances
+  distance-inside = rw (tries .good .distances-length) (tries .inside)
+
+  pub value-inside : carries (search .rule) ≡ true → v < length carried
+  value-inside carrying = rw (tries .good .carried-length carrying) (tries .inside)
+
+  pub joins : Joining v marks queue ring
+  joins = record {
+    waits = subst (λ n. Waiting n marks queue ring) (sym (tries .good .marks-length)) (tries .good .waits);
+    inside = rw (tries .good .marks-length) (tries .inside);
+  }
+
+  -- A label that is stored in both buffers, and a cell that joins those that wait, are the machine's store.
+  pub store-does :
+      (d x : Float) {carried′ : List Float} → carried′ ≡ carried-on (search .rule) v x carried
+      → {marks′ queue′ : List ℕ} {ring′ : Ring} → Joined v marks queue ring marks′ queue′ ring′
+      → Does search (storing v (labelled (search .rule) d x)) (buffers distances carried marks queue ring) (buffers (set distances v d) carried′ marks′ queue′ ring′)
+  store-does d x {carried′} carries-on {marks′} {queue′} {ring′} joined-now = record {
+    good = record {
+      distances-length = length-set distances v d ∙ tries .good .distances-length;
+      carried-length = λ carrying. ap length carries-on ∙ length-carried-on (carries (search .rule)) v x carried ∙ tries .good .carried-length carrying;
+      marks-length = joined-now .same-length ∙ tries .good .marks-length;
+      waits = subst (λ n. Waiting n marks′ queue′ ring′) (tries .good .marks-length) (joined-now .waits);
+    };
+    holds = λ net nearest t held. record {
+      labels =
+          labels-store net v (labelled (search .rule) d x) t
+          ∙ ap (λ l. set l v (labelled (search .rule) d x)) (held .labels)
+          ∙ sym (labels-stored search distances carried v d x (tries .inside) distance-inside value-inside)
+          ∙ ap (labels-of search (set distances v d)) (sym carries-on);
+      waiting = waiting-store net v (labelled (search .rule) d x) t ∙ ap (joined v) (held .waiting) ∙ sym (joined-now .added);
+    };
+    kept = λ no-value. carries-on ∙ not-carried-on (carries (search .rule)) v x carried no-value;
+  }
+
+  module _ (left : Left) (step new : Float) (formed : new ≡ formula (search .rule) step v (left .distance)) where
+    -- The machine's test is the test of the two distances.
+    tested-as :
+        (net : Net Carried) → net .below ≡ nearer → (t : State Carried) → Holds search t (buffers distances carried marks queue ring)
+        → {answer : Bool} → lt new (getD distances v nan) ≡ answer
+        → net .below (entering (search .rule) step v (left-label search left)) (label net t v) ≡ answer
+    tested-as net nearest t held e =
+        ap (λ below. below (entering (search .rule) step v (left-label search left)) (label net t v)) nearest
+        ∙ ap (nearer (entering (search .rule) step v (left-label search left))) (label-held net held v (tries .inside))
+        ∙ ap (λ d. lt d (getD distances v nan)) (sym formed)
+        ∙ e
+
+    -- A candidate that is below is stored.
+    pub relax-does :
+        {after : Buffers} → lt new (getD distances v nan) ≡ true
+        → Does search (storing v (labelled (search .rule) new (left .value))) (buffers distances carried marks queue ring) after
+        → Does search (relaxing (left-label search left) v (entering (search .rule) step v)) (buffers distances carried marks queue ring) after
+    relax-does {after} lower stores = record {
+      good = stores .good;
+      holds = λ net nearest t held.
+          subst (λ s. Holds search s after)
+          (ap (λ d. store net v (d, left-label search left .1) t) formed
+          ∙ sym (relax-stores net (left-label search left) v (entering (search .rule) step v) t (tested-as net nearest t held lower)))
+          (stores .holds net nearest t held);
+      kept = stores .kept;
+    }
+
+    -- Any other changes nothing.
+    pub relax-does-nothing :
+        lt new (getD distances v nan) ≡ false
+        → Does search (relaxing (left-label search left) v (entering (search .rule) step v)) (buffers distances carried marks queue ring) (buffers distances carried marks queue ring)
+    relax-does-nothing above = record {
+      good = tries .good;
+      holds = λ net nearest t held.
+          subst (λ s. Holds search s (buffers distances carried marks queue ring))
+          (sym (relax-leaves net (left-label search left) v (entering (search .rule) step v) t (tested-as net nearest t held above)))
+          held;
+      kept = λ no-value. refl;
+    }

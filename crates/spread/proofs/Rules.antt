@@ -1,0 +1,43 @@
+-- What the net of every rule has in common: its cells, its order, and its steps. One case for each rule. Assumes nothing.
+use mathlib.Core.Bool.{true, false}
+use mathlib.Core.List.{List, _++_}
+use mathlib.Core.Path.{_≡_, refl}
+use Prim.Native.Nat.{ℕ}
+use lib.Ieee.{Float}
+use Rattle.fifo.specs.Machine.{Net}
+use Rattle.rules.specs.declared.Size.{Size}
+use Rattle.rules.specs.Sizes.{count}
+use Rattle.rules.specs.Cells.{moves, straight-neighbours, diagonal-neighbours}
+use Rattle.rules.specs.Distances.{plain, with-obstacles}
+use Rattle.rules.specs.Values.{Carried, nearer, closest}
+use Rattle.spread.specs.declared.search.Rule.{Rule}
+use Rattle.spread.specs.declared.search.Rule.the-variants.{Plain, Obstacles, Closest}
+use Rattle.spread.specs.declared.search.Search.{Search}
+use Rattle.spread.specs.Nets.{Grids, net-of, net-by}
+use Rattle.spread.specs.Steps.{Follows, straight-steps, diagonal-steps}
+use Rattle.spread.specs.Begin.{net-on}
+
+module _ (targets obstacles : List ℕ) (values : List Float) where
+  made : Rule → Size → Float → Search
+  made rule size limit = record { rule = rule; size = size; limit = limit }
+
+  cells-by : (rule : Rule) (size : Size) (limit : Float) → net-on (made rule size limit) targets obstacles values .cells ≡ count size
+  unfolding made net-of plain with-obstacles closest
+  cells-by Plain size limit = refl
+  cells-by (Obstacles diagonals) size limit = refl
+  cells-by Closest size limit = refl
+
+  follows-by : (rule : Rule) (size : Size) (limit : Float) → Follows (made rule size limit) obstacles (net-on (made rule size limit) targets obstacles values)
+  unfolding made net-of plain with-obstacles closest moves straight-steps diagonal-steps
+  follows-by Plain size limit = record { nearest = refl; steps = λ u. refl }
+  follows-by (Obstacles diagonals) size limit = record { nearest = refl; steps = λ u. refl }
+  follows-by Closest size limit = record { nearest = refl; steps = λ u. refl }
+
+  pub cells-are : (search : Search) → net-on search targets obstacles values .cells ≡ count (search .size)
+  unfolding made
+  cells-are search = cells-by (search .rule) (search .size) (search .limit)
+
+  -- Its steps are the rule's, its order is by distance.
+  pub follows : (search : Search) → Follows search obstacles (net-on search targets obstacles values)
+  unfolding made
+  follows search = follows-by (search .rule) (search .size) (search .limit)

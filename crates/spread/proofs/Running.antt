@@ -1,0 +1,142 @@
+-- The whole run: the buffers hold what the machine's run holds, take by take, until nothing waits. Assumes nothing.
+use mathlib.Core.Bool.{Bool, true, false, not}
+use mathlib.Core.List.{List, [], _∷_}
+use mathlib.Core.Path.{_≡_, refl, sym, ap, _∙_, subst}
+use Prim.Native.Nat.{ℕ, suc, _+_, _-_, _*_, _^_, _≤_, _<_}
+use native.Mathlib.Nat.{mul-le-mul, lt-of-le-of-lt, le-trans}
+use native.Mathlib.Omega.{arith}
+use borrow.Author.Tests.{not-true, not-false}
+use lib.Dec.{T, lit<}
+use lib.Ieee.{Float}
+use lib.ListN.{length}
+use mir.Syntax.{w64}
+use mir.Val.{Fits}
+use Rattle.cells.specs.Ring.{contents, none, SaysEmpty}
+use Rattle.cells.specs.declared.ring.Ring.{Ring}
+use Rattle.cells.proofs.Bounds.{bounded}
+use Rattle.fifo.specs.Machine.{Net, State, initial, run, takes, finish, takes-of}
+use Rattle.fifo.proofs.Induction.{run-zero, takes-zero}
+use Rattle.fifo.proofs.Runs.{run-last, takes-last, run-past, takes-past}
+use Rattle.rules.specs.declared.Size.{Size}
+use Rattle.rules.specs.Sizes.{in-bounds, count}
+use Rattle.rules.specs.Values.{Carried}
+use Rattle.spread.specs.declared.search.Search.{Search}
+use Rattle.spread.specs.Nets.{Grids, net-of, carries, labels-of}
+use Rattle.spread.specs.Buffers.{Buffers, buffers, Good, Holds}
+use Rattle.spread.specs.Begin.{net-on, Begun, BeganTo}
+use Rattle.spread.specs.Loop.{Setting, Taking, TookCell, Ready, Running, Taken, Ran}
+use Rattle.spread.specs.Promise.{grids, Spreads, Spread}
+use Rattle.spread.proofs.Lengths.{carried-length-kept}
+use Rattle.spread.proofs.Rules.{cells-are, follows}
+use Rattle.spread.proofs.Beginning.{begun-good, begun-initial}
+
+some-or-none : (l : List ℕ) → none l ≡ false → (u : ℕ) × (ws : List ℕ) × (l ≡ u ∷ ws)
+some-or-none [] e = absurd (subst T e tt)
+some-or-none (u ∷ ws) e = (u, ws, refl)
+
+is-none : (l : List ℕ) → none l ≡ true → l ≡ []
+is-none [] e = refl
+is-none (u ∷ ws) e = absurd (subst T (sym e) tt)
+
+-- What holds before each turn of the loop.
+pub record Turn (search : Search) (obstacles : List ℕ) (before b : Buffers) (r : ℕ) : Type 0 where
+  pub good : Good search b
+  pub taken : (net : Net Carried) → Ready search obstacles net before → Taken search net b r
+  pub kept : carries (search .rule) ≡ false → b .carried ≡ before .carried
+
+module _ {search : Search} {obstacles : List ℕ} {before : Buffers} where
+  pub no-turn : Good search before → Turn search obstacles before before 0
+  no-turn good = record {
+    good = good;
+    taken = λ net ready. record { holds = subst (λ s. Holds search s before) (sym (run-zero net (initial net))) (ready .holds); all = takes-zero net (initial net) };
+    kept = λ no-value. refl;
+  }
+
+  module _ {b : Buffers} {r : ℕ} (turn : Turn search obstacles before b r) {answer : Bool} (empty : SaysEmpty (b .ring) answer) where
+    told : answer ≡ none (contents (b .queue) (b .ring))
+    told = empty .says (b .queue) (turn .good .waits .in-slots)
+
+    -- The loop's test is that the ring is not empty.
+    module _ (something : not answer ≡ true) where
+      first : (u : ℕ) × (ws : List ℕ) × (contents (b .queue) (b .ring) ≡ u ∷ ws)
+      first = some-or-none (contents (b .queue) (b .ring)) (sym told ∙ not-true answer something)
+
+      pub turn-takes : Setting search obstacles → Taking search obstacles b
+      turn-takes setting = record { good = turn .good; setting = setting; some = rw (first .2) (omega arith) }
+
+      -- The machine has something to take too, so that a take more is made.
+      more : (net : Net Carried) → Ready search obstacles net before → takes net (r + 1) (initial net) ≡ r + 1
+      more net ready = takes-last net r (initial net) (first .0) (first .1) (turn .taken net ready .holds .waiting ∙ first .2)
+
+      -- So the bound on the takes is not met yet.
+      pub below-square : (net : Net Carried) × Ready search obstacles net before → r + 1 ≤ count (search .size) * count (search .size)
+      below-square (net, ready) = let made = more net ready in let bound = ready .within (r + 1) in omega arith
+
+      -- The take is the machine's next one.
+      pub next-turn : {after : Buffers} → TookCell search obstacles b after → Turn search obstacles before after (r + 1)
+      next-turn {after} took = record {
+        good = took .good;
+        taken = λ net ready.
+            let waiting = turn .taken net ready .holds .waiting ∙ first .2 in
+            record {
+              holds =
+                  subst (λ s. Holds search s after) (sym (run-last net r (initial net) (first .0) (first .1) waiting))
+                  (took .holds net (ready .follows) (run net r (initial net)) (turn .taken net ready .holds) (first .0) (first .1) waiting);
+              all = more net ready;
+            };
+        kept = λ no-value. took .kept no-value ∙ turn .kept no-value;
+      }
+
+    pub ran : not answer ≡ false → Ran search obstacles before (b .distances) (b .carried) (b .marks) (b .queue) r
+    ran nothing = record {
+      lengths = record {
+        distances-length = turn .good .distances-length;
+        carried-length = turn .good .carried-length;
+        marks-length = turn .good .marks-length;
+        queue-length = turn .good .waits .slots ∙ ap suc (turn .good .marks-length);
+      };
+      labels = λ net ready. turn .taken net ready .holds .labels;
+      stopped = λ net ready. turn .taken net ready .holds .waiting ∙ is-none (contents (b .queue) (b .ring)) (sym told ∙ not-false answer nothing);
+      all = λ net ready. turn .taken net ready .all;
+      kept = turn .kept;
+    }
+
+-- The takes are counted in 64 bits: the square of the number of cells fits.
+pub counted-fits : (size : Size) → T (in-bounds size) → (r : ℕ) → r + 1 ≤ count size * count size → Fits w64 (r + 1)
+counted-fits size bounds r below =
+    let most = bounded size bounds .cells-most in
+    record { fits = lt-of-le-of-lt (le-trans below (mul-le-mul most most)) (lit< tt) }
+
+-- ---- from the beginning to the end
+
+module _
+    {search : Search} {targets obstacles : List ℕ} {values distances carried : List Float} {marks queue : List ℕ}
+    (spreads : Spreads search (grids targets obstacles values) distances carried marks queue)
+    {begun : Buffers} (began : BeganTo search targets values (count (search .size)) carried begun)
+  where
+  ready : Ready search obstacles (net-on search targets obstacles values) begun
+  ready = record { follows = follows targets obstacles values search; holds = begun-initial (began .begun) obstacles; within = spreads .within }
+
+  pub begun-runs : Running search obstacles begun
+  begun-runs = record { good = begun-good (began .begun); setting = spreads .setting; ready = (net-on search targets obstacles values, ready) }
+
+  -- A run that stops within the square is where the search ends.
+  pub spread-ends :
+      {distances′ carried′ : List Float} {marks′ queue′ : List ℕ} {r : ℕ} → Ran search obstacles begun distances′ carried′ marks′ queue′ r
+      → Spread search (grids targets obstacles values) carried distances′ carried′ marks′ queue′ r
+  unfolding finish takes-of
+  spread-ends {distances′} {carried′} {marks′} {queue′} {r} ended =
+      let net = net-on search targets obstacles values in
+      let kept : carries (search .rule) ≡ false → carried′ ≡ carried = λ no-value. ended .kept no-value ∙ began .kept no-value in
+      let all = ended .all net ready in
+      let stopped = ended .stopped net ready in
+      let bound : takes net r (initial net) ≤ net .cells * net .cells
+            = subst (λ n. takes net r (initial net) ≤ n * n) (sym (cells-are targets obstacles values search)) (spreads .within r) in
+      let within : r ≤ net .cells * net .cells = omega arith in
+      record {
+        labels = sym (ended .labels net ready) ∙ ap (λ s. s .labels) (sym (run-past net r (net .cells * net .cells) (initial net) stopped within));
+        counted = sym all ∙ sym (takes-past net r (net .cells * net .cells) (initial net) stopped within);
+        lengths = ended .lengths;
+        same-length = carried-length-kept (search .rule) (spreads .lengths .carried-length) (ended .lengths .carried-length) kept;
+        kept = kept;
+      }

@@ -1,0 +1,190 @@
+-- The cells that wait: a cell that joins, begins or is taken keeps the marks and the ring in agreement. Assumes nothing.
+use mathlib.Core.Bool.{Bool, true, false, cond, _||_}
+use mathlib.Core.List.{List, [], _∷_, _++_, append-nil}
+use mathlib.Core.Logic.{_⊎_, inl, inr, ⊎-elim}
+use mathlib.Core.Path.{_≡_, refl, sym, ap, _∙_, subst}
+use Prim.Native.Nat.{ℕ, suc, _+_, _≤_, _<_}
+use native.Mathlib.Omega.{arith}
+use borrow.Author.Tests.{eq-eqb, ne-eqb, eqb-true}
+use lib.Dec.{T, eqb}
+use lib.ListN.{length, getD, set, length-set}
+use lib.Seq.{getD-set-same, getD-set-other}
+use Rattle.cells.specs.Ring.{contents, HasRoom, HasCell, Pushed, Took}
+use Rattle.cells.specs.declared.ring.Ring.{Ring}
+use Rattle.cells.specs.declared.ring.Taken.{Taken}
+use Rattle.fifo.specs.Machine.{among, joined, passing}
+use Rattle.fifo.specs.Walk.{In, NoDup}
+use Rattle.fifo.proofs.Lists.{tested, true-or-false, same-or-not, among-in, in-among, in-front, in-back, in-either, joined-waiting, joined-new, no-dup-joined, no-dup-no-longer, in-passing, length-passing}
+use Rattle.spread.specs.Waiting.{border, Waiting, Beginning, Began, Joining, Joined, SomeWait, TookFirst}
+
+-- ---- membership, as a test
+
+not-among : (c : ℕ) (l : List ℕ) → (In c l → ⊥) → among c l ≡ false
+not-among c l out = ⊎-elim (λ t. absurd (out (among-in c l t))) (λ f. f) (tested (among c l))
+
+among-other : (c v : ℕ) (l : List ℕ) → (c ≡ v → ⊥) → among c (l ++ v ∷ []) ≡ among c l
+unfolding among
+among-other c v [] other = ap (λ b. b || false) (ne-eqb c v other)
+among-other c v (w ∷ l) other = ap (λ b. eqb c w || b) (among-other c v l other)
+
+among-tail : (c v : ℕ) (l : List ℕ) → (c ≡ v → ⊥) → among c (v ∷ l) ≡ among c l
+unfolding among
+among-tail c v l other = ap (λ b. b || among c l) (ne-eqb c v other)
+
+among-last : (v : ℕ) (l : List ℕ) → among v (l ++ v ∷ []) ≡ true
+among-last v l = in-among v (l ++ v ∷ []) (in-back v l (v ∷ []) (inl refl))
+
+-- ---- the buffers
+
+module _ {seen : ℕ} {marks queue : List ℕ} {ring : Ring} (waits : Waiting seen marks queue ring) where
+  -- There is room for a cell that does not wait: with it the waiting cells are still cells, each once, so no more than there are.
+  pub has-room : (v : ℕ) → v < length marks → among v (contents queue ring) ≡ false → HasRoom queue ring
+  has-room v inside out =
+      let all = passing (λ c. true) 0 (length marks) in
+      let below : (c : ℕ) → c < length marks → In c all = λ c below. in-passing (λ c. true) 0 (length marks) c (omega arith) (omega arith) tt in
+      let known : (c : ℕ) → In c (v ∷ contents queue ring) → In c all
+            = λ c i. ⊎-elim (λ p. below c (rw p inside)) (λ j. let in-seen = waits .inside c j in let few = waits .few in below c (omega arith)) i in
+      let single : NoDup (v ∷ contents queue ring) = (λ i. true-or-false (in-among v (contents queue ring) i) out, waits .single) in
+      let fewer = no-dup-no-longer (v ∷ contents queue ring) all single known in
+      let most = length-passing (λ c. true) 0 (length marks) in
+      let slots = waits .slots in
+      record { good = waits .in-slots; room = omega arith }
+
+  -- A cell that did not wait and was pushed is marked so.
+  pub waiting-pushed :
+      (v seen′ : ℕ) {queue′ : List ℕ} {ring′ : Ring}
+      → v < length marks → among v (contents queue ring) ≡ false → Pushed queue ring v queue′ ring′
+      → seen ≤ seen′ → seen′ ≤ length marks → v < seen′ → ((c : ℕ) → c < seen′ → (c ≡ v → ⊥) → c < seen)
+      → Waiting seen′ (set marks v border) queue′ ring′
+  waiting-pushed v seen′ {queue′ = queue′} {ring′ = ring′} inside out pushed more few v-seen others =
+      let old = contents queue ring in
+      record {
+        few = rw length-set few;
+        slots = pushed .same-length ∙ waits .slots ∙ ap suc (sym (length-set marks v border));
+        in-slots = pushed .good;
+        single = rw (pushed .added ∙ sym (joined-new v old out)) (no-dup-joined v old (waits .single));
+        inside = λ c i. ⊎-elim (λ j. let in-seen = waits .inside c j in omega arith) (⊎-elim (λ p. rw p v-seen) absurd) (in-either c old (v ∷ []) (rw (pushed .added) at i));
+        marked = λ c below. rw (pushed .added) (⊎-elim (λ p. rw p at-v) (λ other. elsewhere c below other) (same-or-not c v));
+      }
+    where
+      at-v : eqb (getD (set marks v border) v 0) border ≡ among v (contents queue ring ++ v ∷ [])
+      at-v = ap (λ m. eqb m border) (getD-set-same marks v border 0 inside) ∙ sym (among-last v (contents queue ring))
+
+      elsewhere : (c : ℕ) → c < seen′ → (c ≡ v → ⊥) → eqb (getD (set marks v border) c 0) border ≡ among c (contents queue ring ++ v ∷ [])
+      elsewhere c below other =
+          ap (λ m. eqb m border) (getD-set-other marks v c border 0 other)
+          ∙ waits .marked c (others c below other)
+          ∙ sym (among-other c v (contents queue ring) other)
+
+  -- Another mark at a cell that does not wait changes nothing.
+  pub waiting-marked :
+      (v mark seen′ : ℕ) → v < length marks → (mark ≡ border → ⊥) → among v (contents queue ring) ≡ false
+      → seen ≤ seen′ → seen′ ≤ length marks → ((c : ℕ) → c < seen′ → (c ≡ v → ⊥) → c < seen)
+      → Waiting seen′ (set marks v mark) queue ring
+  waiting-marked v mark seen′ inside other-mark out more few others = record {
+    few = rw length-set few;
+    slots = waits .slots ∙ ap suc (sym (length-set marks v mark));
+    in-slots = waits .in-slots;
+    single = waits .single;
+    inside = λ c i. let in-seen = waits .inside c i in omega arith;
+    marked = λ c below. ⊎-elim (λ p. rw p at-v) (λ other. elsewhere c below other) (same-or-not c v);
+  }
+    where
+      at-v : eqb (getD (set marks v mark) v 0) border ≡ among v (contents queue ring)
+      at-v = ap (λ m. eqb m border) (getD-set-same marks v mark 0 inside) ∙ ne-eqb mark border other-mark ∙ sym out
+
+      elsewhere : (c : ℕ) → c < seen′ → (c ≡ v → ⊥) → eqb (getD (set marks v mark) c 0) border ≡ among c (contents queue ring)
+      elsewhere c below other = ap (λ m. eqb m border) (getD-set-other marks v c mark 0 other) ∙ waits .marked c (others c below other)
+
+-- ---- a cell begins
+
+module _ {cell : ℕ} {marks queue : List ℕ} {ring : Ring} (begins : Beginning cell marks queue ring) where
+  not-yet : among cell (contents queue ring) ≡ false
+  not-yet = not-among cell (contents queue ring) (λ i. let below = begins .waits .inside cell i in omega arith)
+
+  earlier : (c : ℕ) → c < cell + 1 → (c ≡ cell → ⊥) → c < cell
+  earlier c below other = omega (arith, other)
+
+  pub begin-room : HasRoom queue ring
+  begin-room = has-room (begins .waits) cell (begins .inside) not-yet
+
+  pub began-waiting : {queue′ : List ℕ} {ring′ : Ring} {starts : Bool} → starts ≡ true → Pushed queue ring cell queue′ ring′ → Began cell starts marks queue ring (set marks cell border) queue′ ring′
+  began-waiting starts pushed = record {
+    same-length = length-set marks cell border;
+    waits = let inside = begins .inside in waiting-pushed (begins .waits) cell (cell + 1) inside not-yet pushed (omega arith) (omega arith) (omega arith) earlier;
+    added = pushed .added ∙ ap (λ b. contents queue ring ++ cond b (cell ∷ []) []) (sym starts);
+  }
+
+  pub began-resting : {starts : Bool} → starts ≡ false → Began cell starts marks queue ring (set marks cell 0) queue ring
+  began-resting starts = record {
+    same-length = length-set marks cell 0;
+    waits = let inside = begins .inside in waiting-marked (begins .waits) cell 0 (cell + 1) inside (λ e. omega arith) not-yet (omega arith) (omega arith) earlier;
+    added = sym (append-nil (contents queue ring)) ∙ ap (λ b. contents queue ring ++ cond b (cell ∷ []) []) (sym starts);
+  }
+
+-- ---- a cell joins
+
+module _ {cell : ℕ} {marks queue : List ℕ} {ring : Ring} (joins : Joining cell marks queue ring) where
+  -- Its mark says whether it waits.
+  told : {b : Bool} → eqb (getD marks cell 0) border ≡ b → among cell (contents queue ring) ≡ b
+  told e = sym (joins .waits .marked cell (joins .inside)) ∙ e
+
+  module _ (new : eqb (getD marks cell 0) border ≡ false) where
+    pub join-room : HasRoom queue ring
+    join-room = has-room (joins .waits) cell (joins .inside) (told new)
+
+    pub joined-pushed : {queue′ : List ℕ} {ring′ : Ring} → Pushed queue ring cell queue′ ring′ → Joined cell marks queue ring (set marks cell border) queue′ ring′
+    joined-pushed pushed = record {
+      same-length = length-set marks cell border;
+      waits = waiting-pushed (joins .waits) cell (length marks) (joins .inside) (told new) pushed (omega arith) (omega arith) (joins .inside) (λ c below other. below);
+      added = pushed .added ∙ sym (joined-new cell (contents queue ring) (told new));
+    }
+
+  pub joined-before : eqb (getD marks cell 0) border ≡ true → Joined cell marks queue ring marks queue ring
+  joined-before old = record {
+    same-length = refl;
+    waits = joins .waits;
+    added = sym (joined-waiting cell (contents queue ring) (told old));
+  }
+
+-- ---- the first is taken
+
+module _ {marks queue : List ℕ} {ring : Ring} (waits : Waiting (length marks) marks queue ring) {taken : Taken} (took : Took queue ring taken) where
+  single-split : NoDup (taken .cell ∷ contents queue (taken .ring))
+  single-split = rw (took .split) at (waits .single)
+
+  in-before : (c : ℕ) → In c (taken .cell ∷ contents queue (taken .ring)) → c < length marks
+  in-before c i = waits .inside c (rw (took .split) i)
+
+  pub taken-inside : taken .cell < length marks
+  taken-inside = in-before (taken .cell) (inl refl)
+
+  pub took-first : (mark : ℕ) → (mark ≡ border → ⊥) → TookFirst marks queue ring (set marks (taken .cell) mark) taken
+  took-first mark other-mark = record {
+    same-length = length-set marks (taken .cell) mark;
+    inside = taken-inside;
+    split = took .split;
+    waits = record {
+      few = rw length-set (omega arith);
+      slots = waits .slots ∙ ap suc (sym (length-set marks (taken .cell) mark));
+      in-slots = took .good;
+      single = single-split .1;
+      inside = λ c i. in-before c (inr i);
+      marked = λ c below. ⊎-elim (λ p. rw p at-first) (λ other. elsewhere c below other) (same-or-not c (taken .cell));
+    };
+  }
+    where
+      at-first : eqb (getD (set marks (taken .cell) mark) (taken .cell) 0) border ≡ among (taken .cell) (contents queue (taken .ring))
+      at-first =
+          ap (λ m. eqb m border) (getD-set-same marks (taken .cell) mark 0 taken-inside)
+          ∙ ne-eqb mark border other-mark
+          ∙ sym (not-among (taken .cell) (contents queue (taken .ring)) (single-split .0))
+
+      elsewhere :
+          (c : ℕ) → c < length marks → (c ≡ taken .cell → ⊥)
+          → eqb (getD (set marks (taken .cell) mark) c 0) border ≡ among c (contents queue (taken .ring))
+      elsewhere c below other =
+          ap (λ m. eqb m border) (getD-set-other marks (taken .cell) c mark 0 other)
+          ∙ waits .marked c below
+          ∙ ap (among c) (took .split)
+          ∙ among-tail c (taken .cell) (contents queue (taken .ring)) other

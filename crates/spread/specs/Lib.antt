@@ -1,0 +1,7 @@
+pub mod Nets
+pub mod Steps
+pub mod Waiting
+pub mod Buffers
+pub mod Begin
+pub mod Loop
+pub mod Promise

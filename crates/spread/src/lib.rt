@@ -1,0 +1,15 @@
+// The loop of all searches: cells are taken from the queue and their neighbours tried, until nothing waits.
+//
+// A search is a rule over its grids. `spread` begins with the starting cells and runs to the end; it
+// promises the labels and the takes of the rule's net, whatever the buffers held before.
+mod begin;
+mod relax;
+mod run;
+mod scan;
+mod search;
+mod steps;
+mod waiting;
+
+pub use run::spread;
+pub use search::Rule;
+pub use search::Search;

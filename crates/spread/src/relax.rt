@@ -1,0 +1,107 @@
+// One neighbour is tried: its candidate is stored if it is below the neighbour's distance.
+use crate::search::Rule;
+use crate::search::Search;
+use crate::waiting::wait;
+use cells::Ring;
+ghost use mathlib.Core.Path.{_≡_};
+ghost use mathlib.Core.Bool.{true};
+ghost use Prim.Native.Nat.{ℕ, _<_};
+ghost use lib.Ieee as Ieee;
+ghost use lib.ListN.{length};
+ghost use Rattle.spread.specs.Nets as net;
+ghost use Rattle.spread.specs.Steps.{formula, entering, labelled};
+ghost use Rattle.spread.specs.Buffers.{buffers, carried-on, storing, relaxing, Does};
+ghost use Rattle.spread.specs.Loop.{left-label, Trying};
+
+// The cell that is left, with the label that it had when it was taken.
+pub struct Left {
+    pub cell: u32,
+    pub distance: f32,
+    pub value: f32,
+}
+
+// Whether a value goes along.
+pub fn carries(rule: Rule) -> bool
+    ensures { λ r. ⌜ r ≡ net.carries rule ⌝ }
+{
+    match rule {
+        Rule::Plain => false,
+        Rule::Obstacles(_) => false,
+        Rule::Closest => true,
+    }
+}
+
+// Stores the value that goes along, if one does.
+pub fn carry(rule: Rule, cell: u32, value: f32, carried: &mut [f32])
+    requires { ⌜ (net.carries rule ≡ true → cell < length (now carried)) ⌝ }
+    ensures { λ r. ⌜ now (carried .exit) ≡ carried-on rule cell value (now (carried .entry)) ⌝ }
+{
+    let at = cell as usize;
+    if carries(rule) {
+        carried[at] = value;
+    }
+}
+
+// A step of length s further from distance d.
+fn plus_step(d: f32, s: f32) -> f32
+    ensures { λ r. ⌜ r ≡ Ieee.add Ieee.binary32 d s ⌝ }
+{
+    d + s
+}
+
+// The distance over a step from the cell that is left, by the rule's formula.
+fn candidate(rule: Rule, left: Left, step: f32) -> f32
+    ensures { λ r. ⌜ ((v : ℕ) → r ≡ formula rule step v (left .distance)) ⌝ }
+{
+    match rule {
+        Rule::Plain => plus_step(left.distance, step),
+        Rule::Obstacles(_) => plus_step(left.distance, step),
+        Rule::Closest => plus_step(left.distance, step),
+    }
+}
+
+// A cell takes a label, and waits.
+fn store(
+    search: Search,
+    cell: u32,
+    distance: f32,
+    value: f32,
+    distances: &mut [f32],
+    carried: &mut [f32],
+    marks: &mut [u8],
+    queue: &mut [u32],
+    ring: Ring,
+) -> Ring
+    requires { ⌜ Trying search cell (buffers (now distances) (now carried) (now marks) (now queue) ring) ⌝ }
+    ensures { λ r. ⌜ Does search (storing cell (labelled (search .rule) distance value)) (buffers (now (distances .entry)) (now (carried .entry)) (now (marks .entry)) (now (queue .entry)) ring) (buffers (now (distances .exit)) (now (carried .exit)) (now (marks .exit)) (now (queue .exit)) r) ⌝ }
+{
+    let at = cell as usize;
+    distances[at] = distance;
+    let rule = search.rule;
+    carry(rule, cell, value, carried);
+    wait(cell, marks, queue, ring)
+}
+
+// Tries a cell over a step of this length.
+pub fn relax(
+    search: Search,
+    left: Left,
+    step: f32,
+    cell: u32,
+    distances: &mut [f32],
+    carried: &mut [f32],
+    marks: &mut [u8],
+    queue: &mut [u32],
+    ring: Ring,
+) -> Ring
+    requires { ⌜ Trying search cell (buffers (now distances) (now carried) (now marks) (now queue) ring) ⌝ }
+    ensures { λ r. ⌜ Does search (relaxing (left-label search left) cell (entering (search .rule) step cell)) (buffers (now (distances .entry)) (now (carried .entry)) (now (marks .entry)) (now (queue .entry)) ring) (buffers (now (distances .exit)) (now (carried .exit)) (now (marks .exit)) (now (queue .exit)) r) ⌝ }
+{
+    let at = cell as usize;
+    let rule = search.rule;
+    let distance = candidate(rule, left, step);
+    if distances[at] > distance {
+        return store(search, cell, distance, left.value, distances, carried, marks, queue, ring);
+    }
+    ring
+}
