@@ -114,29 +114,29 @@ module _
     (spreads : Spreads search (grids targets obstacles values) distances carried marks queue)
     {begun : Buffers} (began : BeganTo search targets values (count (search .size)) carried begun)
   where
-  ready : Ready search obstacles (net-on search targets obstacles values) begun
-  ready = record { follows = follows targets obstacles values search; holds = begun-initial (began .begun) obstacles; within = spreads .within }
+    ready : Ready search obstacles (net-on search targets obstacles values) begun
+    ready = record { follows = follows targets obstacles values search; holds = begun-initial (began .begun) obstacles; within = spreads .within }
 
-  pub begun-runs : Running search obstacles begun
-  begun-runs = record { good = begun-good (began .begun); setting = spreads .setting; ready = (net-on search targets obstacles values, ready) }
+    pub begun-runs : Running search obstacles begun
+    begun-runs = record { good = begun-good (began .begun); setting = spreads .setting; ready = (net-on search targets obstacles values, ready) }
 
-  -- A run that stops within the square is where the search ends.
-  pub spread-ends :
-      {distances′ carried′ : List Float} {marks′ queue′ : List ℕ} {r : ℕ} → Ran search obstacles begun distances′ carried′ marks′ queue′ r
-      → Spread search (grids targets obstacles values) carried distances′ carried′ marks′ queue′ r
-  unfolding finish takes-of
-  spread-ends {distances′} {carried′} {marks′} {queue′} {r} ended =
-      let net = net-on search targets obstacles values in
-      let kept : carries (search .rule) ≡ false → carried′ ≡ carried = λ no-value. ended .kept no-value ∙ began .kept no-value in
-      let all = ended .all net ready in
-      let stopped = ended .stopped net ready in
-      let bound : takes net r (initial net) ≤ net .cells * net .cells
-            = subst (λ n. takes net r (initial net) ≤ n * n) (sym (cells-are targets obstacles values search)) (spreads .within r) in
-      let within : r ≤ net .cells * net .cells = omega arith in
-      record {
-        labels = sym (ended .labels net ready) ∙ ap (λ s. s .labels) (sym (run-past net r (net .cells * net .cells) (initial net) stopped within));
-        counted = sym all ∙ sym (takes-past net r (net .cells * net .cells) (initial net) stopped within);
-        lengths = ended .lengths;
-        same-length = carried-length-kept (search .rule) (spreads .lengths .carried-length) (ended .lengths .carried-length) kept;
-        kept = kept;
-      }
+    -- A run that stops within the square is where the search ends.
+    pub spread-ends :
+        {distances′ carried′ : List Float} {marks′ queue′ : List ℕ} {r : ℕ} → Ran search obstacles begun distances′ carried′ marks′ queue′ r
+        → Spread search (grids targets obstacles values) carried distances′ carried′ marks′ queue′ r
+    unfolding finish takes-of
+    spread-ends {distances′} {carried′} {marks′} {queue′} {r} ended =
+        let net = net-on search targets obstacles values in
+        let kept : carries (search .rule) ≡ false → carried′ ≡ carried = λ no-value. ended .kept no-value ∙ began .kept no-value in
+        let all = ended .all net ready in
+        let stopped = ended .stopped net ready in
+        let bound : takes net r (initial net) ≤ net .cells * net .cells
+        = subst (λ n. takes net r (initial net) ≤ n * n) (sym (cells-are targets obstacles values search)) (spreads .within r) in
+        let within : r ≤ net .cells * net .cells = omega arith in
+        record {
+          labels = sym (ended .labels net ready) ∙ ap (λ s. s .labels) (sym (run-past net r (net .cells * net .cells) (initial net) stopped within));
+          counted = sym all ∙ sym (takes-past net r (net .cells * net .cells) (initial net) stopped within);
+          lengths = ended .lengths;
+          same-length = carried-length-kept (search .rule) (spreads .lengths .carried-length) (ended .lengths .carried-length) kept;
+          kept = kept;
+        }

@@ -149,18 +149,18 @@ module _
     (search : Search) (left : Left) (steps : List ℕ → List (ℕ × (Carried → Carried)))
     (append : (l m : List ℕ) → steps (l ++ m) ≡ steps l ++ steps m) (cells : List ℕ) (start : ℕ)
   where
-  none-scanned : {b : Buffers} → steps [] ≡ [] → Good search b → Does search (scanning (left-label search left) (steps (part cells start start))) b b
-  none-scanned nowhere = none-tried search left (ap steps (part-none cells start) ∙ nowhere)
+    none-scanned : {b : Buffers} → steps [] ≡ [] → Good search b → Does search (scanning (left-label search left) (steps (part cells start start))) b b
+    none-scanned nowhere = none-tried search left (ap steps (part-none cells start) ∙ nowhere)
 
-  one-scanned :
-      {before between after : Buffers} (k : ℕ) → start ≤ k → k < length cells
-      → Does search (scanning (left-label search left) (steps (part cells start k))) before between
-      → Does search (scanning (left-label search left) (steps (getD cells k 0 ∷ []))) between after
-      → Does search (scanning (left-label search left) (steps (part cells start (k + 1)))) before after
-  one-scanned k from below does does-then =
-      does-both does does-then (λ net t.
-      sym (scan-append net (left-label search left) (steps (part cells start k)) (steps (getD cells k 0 ∷ [])) t)
-      ∙ ap (λ l. scan net (left-label search left) l t) (sym (ap steps (part-last cells start k from below) ∙ append (part cells start k) (getD cells k 0 ∷ []))))
+    one-scanned :
+        {before between after : Buffers} (k : ℕ) → start ≤ k → k < length cells
+        → Does search (scanning (left-label search left) (steps (part cells start k))) before between
+        → Does search (scanning (left-label search left) (steps (getD cells k 0 ∷ []))) between after
+        → Does search (scanning (left-label search left) (steps (part cells start (k + 1)))) before after
+    one-scanned k from below does does-then =
+        does-both does does-then (λ net t.
+        sym (scan-append net (left-label search left) (steps (part cells start k)) (steps (getD cells k 0 ∷ [])) t)
+        ∙ ap (λ l. scan net (left-label search left) l t) (sym (ap steps (part-last cells start k from below) ∙ append (part cells start k) (getD cells k 0 ∷ []))))
 
 module _ (search : Search) (obstacles : List ℕ) (left : Left) (cells : List ℕ) where
   pub straight-begun : {b : Buffers} → Good search b → Does search (scanning (left-label search left) (straight-steps search obstacles (part cells 0 0))) b b

@@ -75,64 +75,64 @@ module _
     {search : Search} {obstacles : List ℕ} {distances carried : List Float} {marks queue : List ℕ} {ring : Ring}
     (takes : Taking search obstacles (buffers distances carried marks queue ring))
   where
-  pub some-wait : SomeWait marks queue ring
-  some-wait = record { waits = subst (λ n. Waiting n marks queue ring) (sym (takes .good .marks-length)) (takes .good .waits); some = takes .some }
+    pub some-wait : SomeWait marks queue ring
+    some-wait = record { waits = subst (λ n. Waiting n marks queue ring) (sym (takes .good .marks-length)) (takes .good .waits); some = takes .some }
 
-  module _ {marks′ : List ℕ} {taken : Taken} (took : TookFirst marks queue ring marks′ taken) where
-    pub cell-inside : taken .cell < count (search .size)
-    cell-inside = rw (takes .good .marks-length) at (took .inside)
+    module _ {marks′ : List ℕ} {taken : Taken} (took : TookFirst marks queue ring marks′ taken) where
+      pub cell-inside : taken .cell < count (search .size)
+      cell-inside = rw (takes .good .marks-length) at (took .inside)
 
-    pub can-leave : CanLeave (search .rule) distances carried (taken .cell)
-    can-leave = record {
-      distance-inside = rw (takes .good .distances-length) cell-inside;
-      value-inside = λ carrying. rw (takes .good .carried-length carrying) cell-inside;
-    }
-
-    good-taken : Good search (buffers distances carried marks′ queue (taken .ring))
-    good-taken = record {
-      distances-length = takes .good .distances-length;
-      carried-length = takes .good .carried-length;
-      marks-length = took .same-length ∙ takes .good .marks-length;
-      waits = subst (λ n. Waiting n marks′ queue (taken .ring)) (takes .good .marks-length) (took .waits);
-    }
-
-    module _ {left : Left} (leaves : LeftCell (search .rule) distances carried (taken .cell) left) {near : Neighbours} (lists : Lists (search .size) (taken .cell) near) where
-      pub scans : Scanning search obstacles (left .cell) (near .cells) (near .straight) (near .count) (buffers distances carried marks′ queue (taken .ring))
-      scans = record {
-        good = good-taken;
-        setting = takes .setting;
-        source = rw (leaves .same-cell) cell-inside;
-        inside = lists .inside;
-        eight = lists .eight;
-        start-most = lists .straight-most;
-        end-most = lists .count-most;
+      pub can-leave : CanLeave (search .rule) distances carried (taken .cell)
+      can-leave = record {
+        distance-inside = rw (takes .good .distances-length) cell-inside;
+        value-inside = λ carrying. rw (takes .good .carried-length carrying) cell-inside;
       }
 
-      -- The listed steps are the net's.
-      net-steps :
-          (net : Net Carried) → Follows search obstacles net
-          → net .nbrs (taken .cell) ≡ listed-steps search obstacles (left .cell) (near .cells) (near .straight) (near .count)
-      net-steps net follows =
-          follows .steps (taken .cell)
-          ∙ ap (λ l. straight-steps search obstacles l ++ diagonal-steps search obstacles (taken .cell) (diagonal-neighbours (search .size) (taken .cell))) (sym (lists .straight-ones))
-          ∙ ap (λ l. straight-steps search obstacles (lib.ListN.take (near .straight) (near .cells)) ++ diagonal-steps search obstacles (taken .cell) l) (sym (lists .diagonal-ones))
-          ∙ ap (λ u. listed-steps search obstacles u (near .cells) (near .straight) (near .count)) (sym (leaves .same-cell))
-
-      -- The machine takes the same cell, leaves the same others waiting, and scans the same steps from the same label.
-      pub took-cell :
-          {after : Buffers}
-          → Does search (scanning (left-label search left) (listed-steps search obstacles (left .cell) (near .cells) (near .straight) (near .count))) (buffers distances carried marks′ queue (taken .ring)) after
-          → TookCell search obstacles (buffers distances carried marks queue ring) after
-      took-cell {after} does = record {
-        good = does .good;
-        holds = λ net follows t held u ws e.
-            let head : u ∷ ws ≡ taken .cell ∷ contents queue (taken .ring) = sym e ∙ held .waiting ∙ took .split in
-            let same-head : u ≡ taken .cell = cc in
-            let same-tail : ws ≡ contents queue (taken .ring) = cc in
-            subst (λ s. Holds search s after)
-            (sym (take-is-scan net u ws t
-            ∙ ap (λ d. scan net d (net .nbrs u) (awaiting ws t)) (label-held net held u (rw same-head cell-inside) ∙ ap (λ c. labelled (search .rule) (getD distances c nan) (getD carried c nan)) same-head ∙ sym (leaves .label))
-            ∙ ap (λ steps. scan net (left-label search left) steps (awaiting ws t)) (ap (net .nbrs) same-head ∙ net-steps net follows)))
-            (does .holds net (follows .nearest) (awaiting ws t) (record { labels = held .labels; waiting = same-tail }));
-        kept = does .kept;
+      good-taken : Good search (buffers distances carried marks′ queue (taken .ring))
+      good-taken = record {
+        distances-length = takes .good .distances-length;
+        carried-length = takes .good .carried-length;
+        marks-length = took .same-length ∙ takes .good .marks-length;
+        waits = subst (λ n. Waiting n marks′ queue (taken .ring)) (takes .good .marks-length) (took .waits);
       }
+
+      module _ {left : Left} (leaves : LeftCell (search .rule) distances carried (taken .cell) left) {near : Neighbours} (lists : Lists (search .size) (taken .cell) near) where
+        pub scans : Scanning search obstacles (left .cell) (near .cells) (near .straight) (near .count) (buffers distances carried marks′ queue (taken .ring))
+        scans = record {
+          good = good-taken;
+          setting = takes .setting;
+          source = rw (leaves .same-cell) cell-inside;
+          inside = lists .inside;
+          eight = lists .eight;
+          start-most = lists .straight-most;
+          end-most = lists .count-most;
+        }
+
+        -- The listed steps are the net's.
+        net-steps :
+            (net : Net Carried) → Follows search obstacles net
+            → net .nbrs (taken .cell) ≡ listed-steps search obstacles (left .cell) (near .cells) (near .straight) (near .count)
+        net-steps net follows =
+            follows .steps (taken .cell)
+            ∙ ap (λ l. straight-steps search obstacles l ++ diagonal-steps search obstacles (taken .cell) (diagonal-neighbours (search .size) (taken .cell))) (sym (lists .straight-ones))
+            ∙ ap (λ l. straight-steps search obstacles (lib.ListN.take (near .straight) (near .cells)) ++ diagonal-steps search obstacles (taken .cell) l) (sym (lists .diagonal-ones))
+            ∙ ap (λ u. listed-steps search obstacles u (near .cells) (near .straight) (near .count)) (sym (leaves .same-cell))
+
+        -- The machine takes the same cell, leaves the same others waiting, and scans the same steps from the same label.
+        pub took-cell :
+            {after : Buffers}
+            → Does search (scanning (left-label search left) (listed-steps search obstacles (left .cell) (near .cells) (near .straight) (near .count))) (buffers distances carried marks′ queue (taken .ring)) after
+            → TookCell search obstacles (buffers distances carried marks queue ring) after
+        took-cell {after} does = record {
+          good = does .good;
+          holds = λ net follows t held u ws e.
+              let head : u ∷ ws ≡ taken .cell ∷ contents queue (taken .ring) = sym e ∙ held .waiting ∙ took .split in
+              let same-head : u ≡ taken .cell = cc in
+              let same-tail : ws ≡ contents queue (taken .ring) = cc in
+              subst (λ s. Holds search s after)
+              (sym (take-is-scan net u ws t
+              ∙ ap (λ d. scan net d (net .nbrs u) (awaiting ws t)) (label-held net held u (rw same-head cell-inside) ∙ ap (λ c. labelled (search .rule) (getD distances c nan) (getD carried c nan)) same-head ∙ sym (leaves .label))
+              ∙ ap (λ steps. scan net (left-label search left) steps (awaiting ws t)) (ap (net .nbrs) same-head ∙ net-steps net follows)))
+              (does .holds net (follows .nearest) (awaiting ws t) (record { labels = held .labels; waiting = same-tail }));
+          kept = does .kept;
+        }

@@ -43,7 +43,7 @@ module _ {seen : ℕ} {marks queue : List ℕ} {ring : Ring} (waits : Waiting se
       let all = passing (λ c. true) 0 (length marks) in
       let below : (c : ℕ) → c < length marks → In c all = λ c below. in-passing (λ c. true) 0 (length marks) c (omega arith) (omega arith) tt in
       let known : (c : ℕ) → In c (v ∷ contents queue ring) → In c all
-            = λ c i. ⊎-elim (λ p. below c (rw p inside)) (λ j. let in-seen = waits .inside c j in let few = waits .few in below c (omega arith)) i in
+      = λ c i. ⊎-elim (λ p. below c (rw p inside)) (λ j. let in-seen = waits .inside c j in let few = waits .few in below c (omega arith)) i in
       let single : NoDup (v ∷ contents queue ring) = (λ i. true-or-false (in-among v (contents queue ring) i) out, waits .single) in
       let fewer = no-dup-no-longer (v ∷ contents queue ring) all single known in
       let most = length-passing (λ c. true) 0 (length marks) in

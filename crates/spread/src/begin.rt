@@ -39,9 +39,17 @@ fn from_target(byte: u8, value: f32, cap: f32) -> First
 {
     let starts = is_target(byte);
     if starts {
-        return First { distance: 0.0, value, starts };
+        return First {
+            distance: 0.0,
+            value,
+            starts,
+        };
     }
-    First { distance: cap, value: 0.0, starts }
+    First {
+        distance: cap,
+        value: 0.0,
+        starts,
+    }
 }
 
 // The same, but a nodata target holds NaN, and no value goes along.
@@ -49,7 +57,11 @@ fn from_plain_target(byte: u8, cap: f32) -> First
     ensures { λ r. ⌜ FromPlainTarget byte cap r ⌝ }
 {
     if byte == NODATA_BYTE {
-        return First { distance: nan(), value: 0.0, starts: false };
+        return First {
+            distance: nan(),
+            value: 0.0,
+            starts: false,
+        };
     }
     from_target(byte, 0.0, cap)
 }
@@ -125,7 +137,15 @@ pub fn begin(
     let mut cell: u32 = 0;
     while cell < end {
         ring = begin_cell(
-            search, targets, values, cell, distances, carried, marks, queue, ring,
+            search,
+            targets,
+            values,
+            cell,
+            distances,
+            carried,
+            marks,
+            queue,
+            ring,
         );
         cell += 1;
     }

@@ -101,7 +101,17 @@ pub fn relax(
     let rule = search.rule;
     let distance = candidate(rule, left, step);
     if distances[at] > distance {
-        return store(search, cell, distance, left.value, distances, carried, marks, queue, ring);
+        return store(
+            search,
+            cell,
+            distance,
+            left.value,
+            distances,
+            carried,
+            marks,
+            queue,
+            ring,
+        );
     }
     ring
 }

@@ -54,7 +54,17 @@ fn take_cell(
     let left = leave(rule, distances, carried, cell);
     let near = neighbours_of(search.size, cell);
     scan(
-        search, obstacles, left, &near.cells, near.straight, near.count, distances, carried, marks, queue, rest,
+        search,
+        obstacles,
+        left,
+        &near.cells,
+        near.straight,
+        near.count,
+        distances,
+        carried,
+        marks,
+        queue,
+        rest,
     )
 }
 
@@ -74,9 +84,7 @@ fn run(
     let mut waiting = ring;
     let mut takes: u64 = 0;
     while !is_empty(waiting) {
-        waiting = take_cell(
-            search, obstacles, distances, carried, marks, queue, waiting,
-        );
+        waiting = take_cell(search, obstacles, distances, carried, marks, queue, waiting);
         takes += 1;
     }
     takes

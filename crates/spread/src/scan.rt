@@ -32,7 +32,17 @@ fn try_straight(
 {
     let rule = search.rule;
     if may_straight(rule, obstacles, cell) {
-        return relax(search, left, STRAIGHT, cell, distances, carried, marks, queue, ring);
+        return relax(
+            search,
+            left,
+            STRAIGHT,
+            cell,
+            distances,
+            carried,
+            marks,
+            queue,
+            ring,
+        );
     }
     ring
 }
@@ -55,7 +65,17 @@ fn try_diagonal(
     let rule = search.rule;
     let size = search.size;
     if may_diagonal(rule, size, obstacles, left.cell, cell) {
-        return relax(search, left, DIAGONAL, cell, distances, carried, marks, queue, ring);
+        return relax(
+            search,
+            left,
+            DIAGONAL,
+            cell,
+            distances,
+            carried,
+            marks,
+            queue,
+            ring,
+        );
     }
     ring
 }
@@ -80,7 +100,15 @@ pub fn scan_straight(
     let mut k: usize = 0;
     while k < end {
         waiting = try_straight(
-            search, obstacles, left, cells[k], distances, carried, marks, queue, waiting,
+            search,
+            obstacles,
+            left,
+            cells[k],
+            distances,
+            carried,
+            marks,
+            queue,
+            waiting,
         );
         k += 1;
     }
@@ -108,7 +136,15 @@ pub fn scan_diagonal(
     let mut k = start;
     while k < end {
         waiting = try_diagonal(
-            search, obstacles, left, cells[k], distances, carried, marks, queue, waiting,
+            search,
+            obstacles,
+            left,
+            cells[k],
+            distances,
+            carried,
+            marks,
+            queue,
+            waiting,
         );
         k += 1;
     }
@@ -133,10 +169,29 @@ fn scan_both(
     ensures { λ r. ⌜ Does search (scanning (left-label search left) (listed-steps search (now (obstacles .entry)) (left .cell) (now (cells .entry)) straight count)) (buffers (now (distances .entry)) (now (carried .entry)) (now (marks .entry)) (now (queue .entry)) ring) (buffers (now (distances .exit)) (now (carried .exit)) (now (marks .exit)) (now (queue .exit)) r) ⌝ }
 {
     let waiting = scan_straight(
-        search, obstacles, left, cells, straight, distances, carried, marks, queue, ring,
+        search,
+        obstacles,
+        left,
+        cells,
+        straight,
+        distances,
+        carried,
+        marks,
+        queue,
+        ring,
     );
     scan_diagonal(
-        search, obstacles, left, cells, straight, count, distances, carried, marks, queue, waiting,
+        search,
+        obstacles,
+        left,
+        cells,
+        straight,
+        count,
+        distances,
+        carried,
+        marks,
+        queue,
+        waiting,
     )
 }
 
@@ -162,21 +217,63 @@ pub fn scan(
     let limit = search.limit;
     match rule {
         Rule::Plain => {
-            let plain = Search { rule: Rule::Plain, size, limit };
+            let plain = Search {
+                rule: Rule::Plain,
+                size,
+                limit,
+            };
             scan_both(
-                plain, obstacles, left, cells, straight, count, distances, carried, marks, queue, ring,
+                plain,
+                obstacles,
+                left,
+                cells,
+                straight,
+                count,
+                distances,
+                carried,
+                marks,
+                queue,
+                ring,
             )
         }
         Rule::Obstacles(diagonals) => {
-            let avoiding = Search { rule: Rule::Obstacles(diagonals), size, limit };
+            let avoiding = Search {
+                rule: Rule::Obstacles(diagonals),
+                size,
+                limit,
+            };
             scan_both(
-                avoiding, obstacles, left, cells, straight, count, distances, carried, marks, queue, ring,
+                avoiding,
+                obstacles,
+                left,
+                cells,
+                straight,
+                count,
+                distances,
+                carried,
+                marks,
+                queue,
+                ring,
             )
         }
         Rule::Closest => {
-            let closest = Search { rule: Rule::Closest, size, limit };
+            let closest = Search {
+                rule: Rule::Closest,
+                size,
+                limit,
+            };
             scan_both(
-                closest, obstacles, left, cells, straight, count, distances, carried, marks, queue, ring,
+                closest,
+                obstacles,
+                left,
+                cells,
+                straight,
+                count,
+                distances,
+                carried,
+                marks,
+                queue,
+                ring,
             )
         }
     }

@@ -41,13 +41,7 @@ fn is_between_obstacles(size: Size, obstacles: &[u8], from: u32, to: u32) -> boo
 }
 
 // Whether a diagonal step is refused for the cells beside it.
-fn is_blocked(
-    diagonals: BarrierDiagonals,
-    size: Size,
-    obstacles: &[u8],
-    from: u32,
-    to: u32,
-) -> bool
+fn is_blocked(diagonals: BarrierDiagonals, size: Size, obstacles: &[u8], from: u32, to: u32) -> bool
     requires { ⌜ Among size (now obstacles) from to ⌝ }
     ensures { λ r. ⌜ r ≡ distance.blocked diagonals (on size (now (obstacles .entry))) from to ⌝ }
 {
@@ -76,7 +70,8 @@ pub fn may_diagonal(rule: Rule, size: Size, obstacles: &[u8], from: u32, to: u32
 {
     match rule {
         Rule::Plain => true,
-        Rule::Obstacles(diagonals) => is_free(obstacles, to) && !is_blocked(diagonals, size, obstacles, from, to),
+        Rule::Obstacles(diagonals) => is_free(obstacles, to)
+            && !is_blocked(diagonals, size, obstacles, from, to),
         Rule::Closest => true,
     }
 }

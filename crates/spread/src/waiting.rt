@@ -7,7 +7,9 @@ ghost use Rattle.spread.specs.Waiting.{Beginning, Began, Joining, Joined
 
 // The cell was not reached, waits, or was taken.
 pub const MARK_TODO: u8 = 0;
+
 pub const MARK_BORDER: u8 = 1;
+
 pub const MARK_DONE: u8 = 2;
 
 // Marks a cell as it begins: it waits if it starts.

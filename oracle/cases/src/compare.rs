@@ -14,6 +14,7 @@ use crate::random::Random;
 /// One of the two that are compared.
 pub enum Side {
     Oracle(Build),
+    Library(fn(&Case) -> Answer),
     Program(PathBuf),
 }
 
@@ -30,6 +31,10 @@ impl Side {
     fn file(&self, input: &[u8]) -> Result<Vec<u8>, String> {
         match self {
             Side::Oracle(build) => Ok(answer_file(input, *build)),
+            Side::Library(answer) => Ok(gridfile::write_answer(&match gridfile::read(input) {
+                Ok(case) => answer(&case),
+                Err(gridfile::NotAFile) => Answer::Refused { number: 8, index: None },
+            })),
             Side::Program(path) => run(path, input).map_err(|error| format!("{}: {error}", path.display())),
         }
     }
@@ -38,6 +43,7 @@ impl Side {
     fn call(&self, case: &Case) -> Option<Answer> {
         match self {
             Side::Oracle(build) => Some(answer(case, *build, Reading::Document)),
+            Side::Library(answer) => Some(answer(case)),
             Side::Program(_) => None,
         }
     }

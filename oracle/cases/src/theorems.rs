@@ -19,7 +19,7 @@ pub fn write(top: &Path, folder: &Path, count: usize) -> Result<Vec<usize>, Stri
     let mut counts = Vec::new();
     for search in Search::ALL {
         let number = search.number();
-        let path = top.join(format!("oracle/answers/search-{number}.txt"));
+        let path = top.join(format!("crates/replay/data/search-{number}.txt"));
         let text = fs::read_to_string(&path).map_err(|error| named(&path, error))?;
         let cases = plain::read(&text).map_err(|line| format!("{}: line {line} is not in the form", path.display()))?;
         let small = cases.iter().filter(|(case, _)| case.grids().iter().all(|&(_, _, len)| len <= CELLS_MAX));

@@ -1,0 +1,68 @@
+-- What an export writes and gives for what a search tells. Definitions only.
+use mathlib.Core.List.{List}
+use mathlib.Core.Path.{_≡_}
+use Prim.Native.Nat.{ℕ, zero, suc}
+use lib.IntN.{ℤ}
+use lib.Ieee.{Float}
+use Rattle.binary32.specs.Numbers.{plus-zero}
+use Rattle.rules.specs.declared.Size.{Size}
+use Rattle.rules.specs.declared.Spacing.{Spacing}
+use Rattle.rules.specs.declared.BarrierDiagonals.{BarrierDiagonals}
+use Rattle.rules.specs.declared.BarrierDiagonals.the-variants.{Include, Exclude}
+use Rattle.rules.specs.Sizes.{Refusal, number, number-at}
+use Rattle.calls.specs.declared.answer.Answer.{Answer}
+use Rattle.calls.specs.Answer.{Told, refusal, takes, told}
+use Rattle.calls.specs.Promise.{Slice}
+use Rattle.distances.specs.Promise.{DistancesUpTo, DistanceWithObstacles}
+use Rattle.values.specs.Promise.{ValueAtClosestTarget}
+
+-- 0, or the refusal's number.
+abbrev pub status : Told → ℕ
+status (takes t) = 0
+status (refusal (number k)) = k
+status (refusal (number-at k i)) = k
+
+-- The takes are written on acceptance only.
+abbrev pub takes-after : Told → ℕ → ℕ
+takes-after (takes t) before = t
+takes-after (refusal r) before = before
+
+-- The index is written only with a refusal that has one.
+abbrev pub index-after : Told → ℕ → ℕ
+index-after (takes t) before = before
+index-after (refusal (number k)) before = before
+index-after (refusal (number-at k i)) before = i
+
+pub record Reported (told : Told) (takes takes′ index index′ r : ℕ) : Type 0 where
+  pub status-is : r ≡ status told
+  pub takes-are : takes′ ≡ takes-after told takes
+  pub index-is : index′ ≡ index-after told index
+
+-- The search kept its promise with some answer, and that answer was reported.
+pub record Exported (Promise : Answer → Type 0) (takes takes′ index index′ r : ℕ) : Type 0 where
+  pub answer : Answer
+  pub promised : Promise answer
+  pub reported : Reported (told answer) takes takes′ index index′ r
+
+abbrev pub size : ℤ → ℤ → Size
+size rows columns = record { rows = rows; cols = columns }
+
+abbrev pub spacing : Float → Float → Spacing
+spacing cell-size limit = record { «cell_size» = cell-size; limit = limit }
+
+-- 0 is Include, any other number Exclude.
+abbrev pub diagonals-of : ℕ → BarrierDiagonals
+diagonals-of zero = Include
+diagonals-of (suc k) = Exclude
+
+abbrev pub ExportedUpTo : ℤ → ℤ → List ℕ → Float → Float → Slice Float → Slice ℕ → Slice ℕ → ℕ → ℕ → ℕ → ℕ → ℕ → Type 0
+ExportedUpTo rows columns targets cell-size limit answer marks queue =
+    Exported (DistancesUpTo (size rows columns) targets (spacing cell-size limit) answer marks queue)
+
+abbrev pub ExportedObstacles : ℤ → ℤ → List ℕ → ℤ → ℤ → List ℕ → Float → ℕ → Slice Float → Slice ℕ → Slice ℕ → ℕ → ℕ → ℕ → ℕ → ℕ → Type 0
+ExportedObstacles rows columns targets obstacle-rows obstacle-columns obstacles cell-size diagonals answer marks queue =
+    Exported (DistanceWithObstacles (size rows columns) targets (size obstacle-rows obstacle-columns) obstacles (spacing cell-size plus-zero) (diagonals-of diagonals) answer marks queue)
+
+abbrev pub ExportedClosest : ℤ → ℤ → List ℕ → ℤ → ℤ → List Float → Slice Float → Slice Float → Slice ℕ → Slice ℕ → ℕ → ℕ → ℕ → ℕ → ℕ → Type 0
+ExportedClosest rows columns targets value-rows value-columns values answer distances marks queue =
+    Exported (ValueAtClosestTarget (size rows columns) targets (size value-rows value-columns) values answer distances marks queue)

@@ -1,0 +1,92 @@
+// Searches 1 and 2.
+use crate::report::report;
+use distances::distance_with_obstacles;
+use distances::distances_up_to;
+use rules::BarrierDiagonals;
+use rules::Size;
+use rules::Spacing;
+ghost use mathlib.Core.Path.{_≡_};
+ghost use Rattle.calls.specs.Promise.{slice};
+ghost use Rattle.haul_c.specs.Export.{ExportedUpTo, ExportedObstacles, diagonals-of};
+
+// Exports search 1, `distances_up_to`.
+#[no_mangle]
+pub extern "C" fn haul_distances_up_to(
+    rows: i32,
+    columns: i32,
+    targets: &[u8],
+    cell_size: f32,
+    limit: f32,
+    answer: &mut [f32],
+    marks: &mut [u8],
+    queue: &mut [u32],
+    takes: &mut u64,
+    index: &mut u32,
+) -> u32
+    ensures { λ r. ⌜ ExportedUpTo rows columns (now (targets .entry)) «cell_size» limit (slice (now (answer .entry)) (now (answer .exit))) (slice (now (marks .entry)) (now (marks .exit))) (slice (now (queue .entry)) (now (queue .exit))) (now (takes .entry)) (now (takes .exit)) (now (index .entry)) (now (index .exit)) r ⌝ }
+{
+    let size = Size {
+        rows,
+        cols: columns,
+    };
+    let spacing = Spacing { cell_size, limit };
+    let answered = distances_up_to(size, targets, spacing, answer, marks, queue);
+    report(answered, takes, index)
+}
+
+// 0 is Include, any other number Exclude.
+fn diagonals_of(flag: u32) -> BarrierDiagonals
+    ensures { λ r. ⌜ r ≡ diagonals-of flag ⌝ }
+{
+    if flag == 0 {
+        BarrierDiagonals::Include
+    } else {
+        BarrierDiagonals::Exclude
+    }
+}
+
+// Exports search 2, `distance_with_obstacles`.
+#[no_mangle]
+pub extern "C" fn haul_distance_with_obstacles(
+    rows: i32,
+    columns: i32,
+    targets: &[u8],
+    obstacle_rows: i32,
+    obstacle_columns: i32,
+    obstacles: &[u8],
+    cell_size: f32,
+    diagonals: u32,
+    answer: &mut [f32],
+    marks: &mut [u8],
+    queue: &mut [u32],
+    takes: &mut u64,
+    index: &mut u32,
+) -> u32
+    ensures { λ r. ⌜ ExportedObstacles rows columns (now (targets .entry)) «obstacle_rows» «obstacle_columns» (now (obstacles .entry)) «cell_size» diagonals (slice (now (answer .entry)) (now (answer .exit))) (slice (now (marks .entry)) (now (marks .exit))) (slice (now (queue .entry)) (now (queue .exit))) (now (takes .entry)) (now (takes .exit)) (now (index .entry)) (now (index .exit)) r ⌝ }
+{
+    let size = Size {
+        rows,
+        cols: columns,
+    };
+    let obstacles_size = Size {
+        rows: obstacle_rows,
+        cols: obstacle_columns,
+    };
+    let spacing = Spacing {
+        cell_size,
+        limit: 0.0,
+    };
+    let way = diagonals_of(diagonals);
+    let answered = distance_with_obstacles(
+        size,
+        targets,
+        obstacles_size,
+        obstacles,
+        spacing,
+        way,
+        answer,
+        marks,
+        queue,
+    );
+    report(answered, takes, index)
+}

@@ -1,0 +1,11 @@
+// The searches for programs in other languages: one export for each, with plain numbers and slices.
+//
+// A slice passes as a pointer and then a length. The result is 0, or the number of document 01's
+// refusal. `takes` is written on acceptance only, `index` only with a refusal that has one.
+mod by_distance;
+mod by_value;
+mod report;
+
+pub use by_distance::haul_distance_with_obstacles;
+pub use by_distance::haul_distances_up_to;
+pub use by_value::haul_value_at_closest_target;
