@@ -1,27 +1,25 @@
 -- How a search begins, cell by cell, and that it begins in the net's first state. Assumes nothing.
-use mathlib.Core.Bool.{Bool, true, false, cond}
+use mathlib.Core.Bool.{Bool, true, cond}
 use mathlib.Core.List.{List, [], _∷_, _++_}
 use mathlib.Core.Logic.{⊎-elim}
 use mathlib.Core.Path.{_≡_, refl, sym, ap, _∙_, subst}
-use Prim.Native.Nat.{ℕ, suc, _+_, _≤_, _<_}
+use Prim.Native.Nat.{ℕ, suc, _+_, _<_}
 use native.Mathlib.Nat.{zero-add}
 use native.Mathlib.Omega.{arith}
-use lib.Ieee.{Float, nan}
+use lib.Ieee.{Float}
 use lib.ListN.{length, set, length-set}
-use Rattle.cells.specs.Ring.{contents, NewRing}
+use Rattle.cells.specs.Ring.{NewRing}
 use Rattle.cells.specs.declared.ring.Ring.{Ring}
 use Rattle.fifo.specs.Machine.{table, passing, initial}
-use Rattle.fifo.specs.Walk.{In, NoDup}
 use Rattle.fifo.proofs.Lists.{same-or-not, passing-last}
 use Rattle.rules.specs.Sizes.{count}
 use Rattle.rules.specs.Values.{Carried}
 use Rattle.spread.specs.declared.search.Search.{Search}
 use Rattle.spread.specs.declared.begin.First.{First}
 use Rattle.spread.specs.Nets.{carries, labels-of}
-use Rattle.spread.specs.Steps.{labelled}
-use Rattle.spread.specs.Waiting.{Waiting, Beginning, Began}
+use Rattle.spread.specs.Waiting.{Began}
 use Rattle.spread.specs.Buffers.{Buffers, buffers, Good, Holds, carried-on}
-use Rattle.spread.specs.Begin.{net-on, CellInputs, FirstOf, Lengths, Begun, BeginsCell, BeganTo}
+use Rattle.spread.specs.Begin.{net-on, FirstOf, Lengths, Begun, BeginsCell, BeganTo}
 use Rattle.spread.proofs.Labels.{held, held-here, held-elsewhere, length-carried-on, not-carried-on, table-same}
 use Rattle.spread.proofs.Lengths.{carried-length-kept}
 use Rattle.spread.proofs.Rules.{cells-are}
@@ -32,19 +30,15 @@ module _ {search : Search} {targets : List ℕ} {values : List Float} {cell : �
   lent : Lengths search distances carried marks queue
   lent = begins .begun .lengths
 
-  pub first-inputs : CellInputs search targets values cell
-  first-inputs = record { inputs = begins .inputs; inside = begins .inside }
-
   pub distance-inside : cell < length distances
   distance-inside = rw (lent .distances-length) (begins .inside)
 
   pub value-inside : carries (search .rule) ≡ true → cell < length carried
   value-inside carrying = rw (lent .carried-length carrying) (begins .inside)
 
-  pub mark-begins : Beginning cell marks queue ring
-  mark-begins = record { waits = begins .begun .waits; inside = rw (lent .marks-length) (begins .inside) }
-
-  -- The cell gets its label, and waits if it starts: the labels and the waiting cells are the net's one cell further.
+  -- The cell gets its label, and waits if it starts: the labels and the waiting cells are the net's, one cell further. Proof: the label at the
+  -- cell is the one that was stored, at an earlier cell the one that was there; and the starting cells up to the next are those up to this
+  -- one, with this one behind them if it starts.
   pub cell-begun :
       (first : First) → FirstOf search targets values cell first
       → {carried′ : List Float} → carried′ ≡ carried-on (search .rule) cell (first .value) carried

@@ -1,7 +1,7 @@
 -- What a cell begins with, by the rule, is what the rule's net says. Assumes nothing.
-use mathlib.Core.Bool.{Bool, true, false, not, cond, _&&_, false≢true}
+use mathlib.Core.Bool.{Bool, true, false, not, cond, _&&_}
 use mathlib.Core.List.{List}
-use mathlib.Core.Path.{_≡_, refl, sym, ap, _∙_, subst}
+use mathlib.Core.Path.{_≡_, refl, sym, ap, _∙_}
 use Prim.Native.Nat.{ℕ, suc, _+_, _<_}
 use native.Mathlib.Numerals.{add-one}
 use native.Mathlib.Omega.{arith}
@@ -17,15 +17,13 @@ use Rattle.cells.proofs.Bounds.{bounded}
 use Rattle.rules.specs.declared.BarrierDiagonals.{BarrierDiagonals}
 use Rattle.rules.specs.declared.Size.{Size}
 use Rattle.rules.specs.Sizes.{in-bounds, count}
-use Rattle.rules.specs.Numbers.{infinity, nodata-byte, target-byte, whole}
+use Rattle.rules.specs.Numbers.{infinity, target-byte, whole}
 use Rattle.rules.specs.Distances.{plain, with-obstacles}
 use Rattle.rules.specs.Values.{Carried, closest}
-use Rattle.spread.specs.declared.search.Rule.{Rule}
 use Rattle.spread.specs.declared.search.Rule.the-variants.{Plain, Obstacles, Closest}
 use Rattle.spread.specs.declared.search.Search.{Search}
 use Rattle.spread.specs.declared.begin.First.{First}
 use Rattle.spread.specs.Nets.{net-of, carries}
-use Rattle.spread.specs.Steps.{labelled}
 use Rattle.spread.specs.Begin.{FromTarget, FromPlainTarget, CellInputs, FirstOf}
 
 -- ---- numbers

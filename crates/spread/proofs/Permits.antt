@@ -2,9 +2,9 @@
 use mathlib.Core.Bool.{Bool, true, false, not, _&&_, _||_}
 use mathlib.Core.List.{List}
 use mathlib.Core.Logic.{⊎-elim}
-use mathlib.Core.Path.{_≡_, refl, sym, ap, _∙_, subst}
-use Prim.Native.Nat.{ℕ, zero, suc, _+_, _*_, _/_, _%_, _≤_, _<_}
-use native.Mathlib.Nat.{mul-zero, suc-mul, mul-le-mul-right, mod-lt, div-mul-le-self, div-lt-iff-lt-mul}
+use mathlib.Core.Path.{_≡_, refl, sym, ap, _∙_}
+use Prim.Native.Nat.{ℕ, zero, suc, _+_, _*_, _/_, _%_, _<_}
+use native.Mathlib.Nat.{mul-zero, suc-mul, mul-le-mul-right, mod-lt, div-lt-iff-lt-mul}
 use native.Mathlib.Omega.{arith}
 use borrow.Author.Tests.{ne-eqb}
 use lib.Dec.{T, eqb}
@@ -16,13 +16,13 @@ use mir.Val.{Fits}
 use Rattle.cells.proofs.Bounds.{Bounded, bounded, read, side-read, cast-is}
 use Rattle.fifo.proofs.Lists.{same-or-not}
 use Rattle.rules.specs.declared.BarrierDiagonals.{BarrierDiagonals}
-use Rattle.rules.specs.declared.BarrierDiagonals.the-variants.{Include, Exclude}
+use Rattle.rules.specs.declared.BarrierDiagonals.the-variants.{Exclude}
 use Rattle.rules.specs.declared.Size.{Size}
-use Rattle.rules.specs.Sizes.{Grid, count}
+use Rattle.rules.specs.Sizes.{count}
 use Rattle.rules.specs.Cells.{index, row-of, col-of}
-use Rattle.rules.specs.Distances.{byte, obstacle, free, blocked}
+use Rattle.rules.specs.Distances.{obstacle, blocked}
 use Rattle.spread.specs.declared.search.Rule.{Rule}
-use Rattle.spread.specs.declared.search.Rule.the-variants.{Plain, Obstacles, Closest}
+use Rattle.spread.specs.declared.search.Rule.the-variants.{Obstacles}
 use Rattle.spread.specs.Steps.{on, avoids, may-straight, may-diagonal, SaysFree, Pair, Crossed, Among, MayAsk}
 
 -- ---- obstacles

@@ -5,18 +5,16 @@ use mathlib.Core.Path.{_≡_, refl, sym, ap, _∙_, subst}
 use Prim.Native.Nat.{ℕ, _<_}
 use lib.Ieee.{Float, nan, lt}
 use lib.ListN.{length, getD, set, length-set}
-use Rattle.cells.specs.Ring.{contents}
 use Rattle.cells.specs.declared.ring.Ring.{Ring}
-use Rattle.fifo.specs.Machine.{Net, State, joined, label, store, relax}
+use Rattle.fifo.specs.Machine.{Net, State, joined, label, store}
 use Rattle.fifo.proofs.Induction.{labels-store, waiting-store, relax-stores, relax-leaves}
-use Rattle.rules.specs.Sizes.{count}
 use Rattle.rules.specs.Values.{Carried, nearer}
 use Rattle.spread.specs.declared.search.Search.{Search}
 use Rattle.spread.specs.declared.relax.Left.{Left}
 use Rattle.spread.specs.Nets.{carries, labels-of}
 use Rattle.spread.specs.Steps.{formula, entering, labelled}
 use Rattle.spread.specs.Waiting.{Waiting, Joining, Joined}
-use Rattle.spread.specs.Buffers.{Buffers, buffers, Good, Holds, Does, storing, relaxing, carried-on}
+use Rattle.spread.specs.Buffers.{Buffers, buffers, Holds, Does, storing, relaxing, carried-on}
 use Rattle.spread.specs.Loop.{left-label, Trying}
 use Rattle.spread.proofs.Labels.{label-held, labels-stored, length-carried-on, not-carried-on}
 
@@ -33,7 +31,8 @@ module _ {search : Search} {v : ℕ} {distances carried : List Float} {marks que
     inside = rw (tries .good .marks-length) (tries .inside);
   }
 
-  -- A label that is stored in both buffers, and a cell that joins those that wait, are the machine's store.
+  -- A label that is stored in both buffers, and a cell that joins those that wait, are the machine's store. Proof: the machine stores in its list
+  -- of labels what the buffers store, and its waiting cells are joined by the same cell.
   pub store-does :
       (d x : Float) {carried′ : List Float} → carried′ ≡ carried-on (search .rule) v x carried
       → {marks′ queue′ : List ℕ} {ring′ : Ring} → Joined v marks queue ring marks′ queue′ ring′
@@ -57,7 +56,7 @@ module _ {search : Search} {v : ℕ} {distances carried : List Float} {marks que
   }
 
   module _ (left : Left) (step new : Float) (formed : new ≡ formula (search .rule) step v (left .distance)) where
-    -- The machine's test is the test of the two distances.
+    -- The machine's test is the test of the two distances: the net orders labels by these alone, and the buffers hold the cell's label.
     tested-as :
         (net : Net Carried) → net .below ≡ nearer → (t : State Carried) → Holds search t (buffers distances carried marks queue ring)
         → {answer : Bool} → lt new (getD distances v nan) ≡ answer
@@ -68,7 +67,7 @@ module _ {search : Search} {v : ℕ} {distances carried : List Float} {marks que
         ∙ ap (λ d. lt d (getD distances v nan)) (sym formed)
         ∙ e
 
-    -- A candidate that is below is stored.
+    -- A candidate that is below is stored, by the code as by the machine.
     pub relax-does :
         {after : Buffers} → lt new (getD distances v nan) ≡ true
         → Does search (storing v (labelled (search .rule) new (left .value))) (buffers distances carried marks queue ring) after
@@ -83,7 +82,7 @@ module _ {search : Search} {v : ℕ} {distances carried : List Float} {marks que
       kept = stores .kept;
     }
 
-    -- Any other changes nothing.
+    -- Any other changes nothing, neither here nor there.
     pub relax-does-nothing :
         lt new (getD distances v nan) ≡ false
         → Does search (relaxing (left-label search left) v (entering (search .rule) step v)) (buffers distances carried marks queue ring) (buffers distances carried marks queue ring)

@@ -1,19 +1,17 @@
 -- What the net of every rule has in common: its cells, its order, and its steps. One case for each rule. Assumes nothing.
-use mathlib.Core.Bool.{true, false}
-use mathlib.Core.List.{List, _++_}
+use mathlib.Core.List.{List}
 use mathlib.Core.Path.{_≡_, refl}
 use Prim.Native.Nat.{ℕ}
 use lib.Ieee.{Float}
-use Rattle.fifo.specs.Machine.{Net}
 use Rattle.rules.specs.declared.Size.{Size}
 use Rattle.rules.specs.Sizes.{count}
-use Rattle.rules.specs.Cells.{moves, straight-neighbours, diagonal-neighbours}
+use Rattle.rules.specs.Cells.{moves}
 use Rattle.rules.specs.Distances.{plain, with-obstacles}
-use Rattle.rules.specs.Values.{Carried, nearer, closest}
+use Rattle.rules.specs.Values.{closest}
 use Rattle.spread.specs.declared.search.Rule.{Rule}
 use Rattle.spread.specs.declared.search.Rule.the-variants.{Plain, Obstacles, Closest}
 use Rattle.spread.specs.declared.search.Search.{Search}
-use Rattle.spread.specs.Nets.{Grids, net-of, net-by}
+use Rattle.spread.specs.Nets.{net-of}
 use Rattle.spread.specs.Steps.{Follows, straight-steps, diagonal-steps}
 use Rattle.spread.specs.Begin.{net-on}
 

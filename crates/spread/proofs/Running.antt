@@ -2,29 +2,27 @@
 use mathlib.Core.Bool.{Bool, true, false, not}
 use mathlib.Core.List.{List, [], _∷_}
 use mathlib.Core.Path.{_≡_, refl, sym, ap, _∙_, subst}
-use Prim.Native.Nat.{ℕ, suc, _+_, _-_, _*_, _^_, _≤_, _<_}
+use Prim.Native.Nat.{ℕ, suc, _+_, _*_, _≤_}
 use native.Mathlib.Nat.{mul-le-mul, lt-of-le-of-lt, le-trans}
 use native.Mathlib.Omega.{arith}
 use borrow.Author.Tests.{not-true, not-false}
 use lib.Dec.{T, lit<}
 use lib.Ieee.{Float}
-use lib.ListN.{length}
 use mir.Syntax.{w64}
 use mir.Val.{Fits}
 use Rattle.cells.specs.Ring.{contents, none, SaysEmpty}
-use Rattle.cells.specs.declared.ring.Ring.{Ring}
 use Rattle.cells.proofs.Bounds.{bounded}
-use Rattle.fifo.specs.Machine.{Net, State, initial, run, takes, finish, takes-of}
+use Rattle.fifo.specs.Machine.{Net, initial, run, takes, finish, takes-of}
 use Rattle.fifo.proofs.Induction.{run-zero, takes-zero}
 use Rattle.fifo.proofs.Runs.{run-last, takes-last, run-past, takes-past}
 use Rattle.rules.specs.declared.Size.{Size}
 use Rattle.rules.specs.Sizes.{in-bounds, count}
 use Rattle.rules.specs.Values.{Carried}
 use Rattle.spread.specs.declared.search.Search.{Search}
-use Rattle.spread.specs.Nets.{Grids, net-of, carries, labels-of}
-use Rattle.spread.specs.Buffers.{Buffers, buffers, Good, Holds}
-use Rattle.spread.specs.Begin.{net-on, Begun, BeganTo}
-use Rattle.spread.specs.Loop.{Setting, Taking, TookCell, Ready, Running, Taken, Ran}
+use Rattle.spread.specs.Nets.{carries}
+use Rattle.spread.specs.Buffers.{Buffers, Good, Holds}
+use Rattle.spread.specs.Begin.{net-on, BeganTo}
+use Rattle.spread.specs.Loop.{Setting, Taking, TookCell, Ready, Running, Ran}
 use Rattle.spread.specs.Promise.{grids, Spreads, Spread}
 use Rattle.spread.proofs.Lengths.{carried-length-kept}
 use Rattle.spread.proofs.Rules.{cells-are, follows}
@@ -37,6 +35,11 @@ some-or-none (u ∷ ws) e = (u, ws, refl)
 is-none : (l : List ℕ) → none l ≡ true → l ≡ []
 is-none [] e = refl
 is-none (u ∷ ws) e = absurd (subst T (sym e) tt)
+
+-- After r takes, each of them made, the buffers hold what the machine does.
+pub record Taken (search : Search) (net : Net Carried) (b : Buffers) (r : ℕ) : Type 0 where
+  pub holds : Holds search (run net r (initial net)) b
+  pub all : takes net r (initial net) ≡ r
 
 -- What holds before each turn of the loop.
 pub record Turn (search : Search) (obstacles : List ℕ) (before b : Buffers) (r : ℕ) : Type 0 where
@@ -68,11 +71,12 @@ module _ {search : Search} {obstacles : List ℕ} {before : Buffers} where
       more : (net : Net Carried) → Ready search obstacles net before → takes net (r + 1) (initial net) ≡ r + 1
       more net ready = takes-last net r (initial net) (first .0) (first .1) (turn .taken net ready .holds .waiting ∙ first .2)
 
-      -- So the bound on the takes is not met yet.
+      -- So the bound on the takes is not met yet, and the loop's measure is above 0.
       pub below-square : (net : Net Carried) × Ready search obstacles net before → r + 1 ≤ count (search .size) * count (search .size)
       below-square (net, ready) = let made = more net ready in let bound = ready .within (r + 1) in omega arith
 
-      -- The take is the machine's next one.
+      -- The take is the machine's next one. Proof: the buffers hold the state after r takes, in which the same cells wait, so that the code's
+      -- take leads to the state that the machine's take leads to, and that is the state after r + 1 takes.
       pub next-turn : {after : Buffers} → TookCell search obstacles b after → Turn search obstacles before after (r + 1)
       next-turn {after} took = record {
         good = took .good;
@@ -95,9 +99,11 @@ module _ {search : Search} {obstacles : List ℕ} {before : Buffers} where
         marks-length = turn .good .marks-length;
         queue-length = turn .good .waits .slots ∙ ap suc (turn .good .marks-length);
       };
-      labels = λ net ready. turn .taken net ready .holds .labels;
-      stopped = λ net ready. turn .taken net ready .holds .waiting ∙ is-none (contents (b .queue) (b .ring)) (sym told ∙ not-false answer nothing);
-      all = λ net ready. turn .taken net ready .all;
+      ended = λ net ready. record {
+        all = turn .taken net ready .all;
+        stopped = turn .taken net ready .holds .waiting ∙ is-none (contents (b .queue) (b .ring)) (sym told ∙ not-false answer nothing);
+        labels = turn .taken net ready .holds .labels;
+      };
       kept = turn .kept;
     }
 
@@ -120,23 +126,24 @@ module _
     pub begun-runs : Running search obstacles begun
     begun-runs = record { good = begun-good (began .begun); setting = spreads .setting; ready = (net-on search targets obstacles values, ready) }
 
-    -- A run that stops within the square is where the search ends.
+    -- A run that stops is where the search ends. Proof: each of its takes was made, so they are within the square; the search is the run of as
+    -- many takes as the square, and past a stop nothing changes.
     pub spread-ends :
         {distances′ carried′ : List Float} {marks′ queue′ : List ℕ} {r : ℕ} → Ran search obstacles begun distances′ carried′ marks′ queue′ r
         → Spread search (grids targets obstacles values) carried distances′ carried′ marks′ queue′ r
     unfolding finish takes-of
-    spread-ends {distances′} {carried′} {marks′} {queue′} {r} ended =
+    spread-ends {distances′} {carried′} {marks′} {queue′} {r} runs =
         let net = net-on search targets obstacles values in
-        let kept : carries (search .rule) ≡ false → carried′ ≡ carried = λ no-value. ended .kept no-value ∙ began .kept no-value in
-        let all = ended .all net ready in
-        let stopped = ended .stopped net ready in
+        let kept : carries (search .rule) ≡ false → carried′ ≡ carried = λ no-value. runs .kept no-value ∙ began .kept no-value in
+        let ended = runs .ended net ready in
+        let all = ended .all in
         let bound : takes net r (initial net) ≤ net .cells * net .cells
         = subst (λ n. takes net r (initial net) ≤ n * n) (sym (cells-are targets obstacles values search)) (spreads .within r) in
         let within : r ≤ net .cells * net .cells = omega arith in
         record {
-          labels = sym (ended .labels net ready) ∙ ap (λ s. s .labels) (sym (run-past net r (net .cells * net .cells) (initial net) stopped within));
-          counted = sym all ∙ sym (takes-past net r (net .cells * net .cells) (initial net) stopped within);
-          lengths = ended .lengths;
-          same-length = carried-length-kept (search .rule) (spreads .lengths .carried-length) (ended .lengths .carried-length) kept;
+          labels = sym (ended .labels) ∙ ap (λ s. s .labels) (sym (run-past net r (net .cells * net .cells) (initial net) (ended .stopped) within));
+          counted = sym (ended .all) ∙ sym (takes-past net r (net .cells * net .cells) (initial net) (ended .stopped) within);
+          lengths = runs .lengths;
+          same-length = carried-length-kept (search .rule) (spreads .lengths .carried-length) (runs .lengths .carried-length) kept;
           kept = kept;
         }

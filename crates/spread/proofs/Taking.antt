@@ -1,17 +1,16 @@
 -- A cell is taken: what the code does to the buffers is the machine's take of what they hold. Assumes nothing.
-use mathlib.Core.Bool.{Bool, true, false, cond}
-use mathlib.Core.List.{List, [], _∷_, _++_}
+use mathlib.Core.Bool.{false, cond}
+use mathlib.Core.List.{List, _∷_, _++_}
 use mathlib.Core.Path.{_≡_, refl, sym, ap, _∙_, subst}
-use Prim.Native.Nat.{ℕ, suc, _≤_, _<_}
-use native.Mathlib.Omega.{arith}
+use Prim.Native.Nat.{ℕ, _<_}
 use lib.Ieee.{Float, nan}
-use lib.ListN.{length, getD}
+use lib.ListN.{getD}
 use Rattle.cells.specs.Neighbours.{Lists}
 use Rattle.cells.specs.Ring.{contents}
 use Rattle.cells.specs.declared.neighbours.Neighbours.{Neighbours}
 use Rattle.cells.specs.declared.ring.Ring.{Ring}
 use Rattle.cells.specs.declared.ring.Taken.{Taken}
-use Rattle.fifo.specs.Machine.{Net, State, label, scan, take}
+use Rattle.fifo.specs.Machine.{Net, label, scan, take}
 use Rattle.fifo.proofs.Induction.{awaiting, scan-append, take-is-scan}
 use Rattle.rules.specs.Cells.{diagonal-neighbours}
 use Rattle.rules.specs.Sizes.{count}

@@ -1,21 +1,21 @@
 -- The cells that wait: a cell that joins, begins or is taken keeps the marks and the ring in agreement. Assumes nothing.
 use mathlib.Core.Bool.{Bool, true, false, cond, _||_}
 use mathlib.Core.List.{List, [], _∷_, _++_, append-nil}
-use mathlib.Core.Logic.{_⊎_, inl, inr, ⊎-elim}
-use mathlib.Core.Path.{_≡_, refl, sym, ap, _∙_, subst}
+use mathlib.Core.Logic.{inl, inr, ⊎-elim}
+use mathlib.Core.Path.{_≡_, refl, sym, ap, _∙_}
 use Prim.Native.Nat.{ℕ, suc, _+_, _≤_, _<_}
 use native.Mathlib.Omega.{arith}
-use borrow.Author.Tests.{eq-eqb, ne-eqb, eqb-true}
-use lib.Dec.{T, eqb}
+use borrow.Author.Tests.{ne-eqb}
+use lib.Dec.{eqb}
 use lib.ListN.{length, getD, set, length-set}
 use lib.Seq.{getD-set-same, getD-set-other}
-use Rattle.cells.specs.Ring.{contents, HasRoom, HasCell, Pushed, Took}
+use Rattle.cells.specs.Ring.{contents, HasRoom, Pushed, Took}
 use Rattle.cells.specs.declared.ring.Ring.{Ring}
 use Rattle.cells.specs.declared.ring.Taken.{Taken}
-use Rattle.fifo.specs.Machine.{among, joined, passing}
+use Rattle.fifo.specs.Machine.{among, passing}
 use Rattle.fifo.specs.Walk.{In, NoDup}
-use Rattle.fifo.proofs.Lists.{tested, true-or-false, same-or-not, among-in, in-among, in-front, in-back, in-either, joined-waiting, joined-new, no-dup-joined, no-dup-no-longer, in-passing, length-passing}
-use Rattle.spread.specs.Waiting.{border, Waiting, Beginning, Began, Joining, Joined, SomeWait, TookFirst}
+use Rattle.fifo.proofs.Lists.{tested, true-or-false, same-or-not, among-in, in-among, in-back, in-either, joined-waiting, joined-new, no-dup-joined, no-dup-no-longer, in-passing, length-passing}
+use Rattle.spread.specs.Waiting.{border, Waiting, Beginning, Began, Joining, Joined, TookFirst}
 
 -- ---- membership, as a test
 
@@ -34,7 +34,7 @@ among-tail c v l other = ap (λ b. b || among c l) (ne-eqb c v other)
 among-last : (v : ℕ) (l : List ℕ) → among v (l ++ v ∷ []) ≡ true
 among-last v l = in-among v (l ++ v ∷ []) (in-back v l (v ∷ []) (inl refl))
 
--- ---- the buffers
+-- ---- marks and ring
 
 module _ {seen : ℕ} {marks queue : List ℕ} {ring : Ring} (waits : Waiting seen marks queue ring) where
   -- There is room for a cell that does not wait: with it the waiting cells are still cells, each once, so no more than there are.

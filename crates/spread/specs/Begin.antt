@@ -1,8 +1,8 @@
 -- How a search begins: what each cell gets, in row order. Definitions only.
-use mathlib.Core.Bool.{Bool, true, false, not, cond}
+use mathlib.Core.Bool.{true, false, not, cond}
 use mathlib.Core.List.{List}
 use mathlib.Core.Path.{_≡_}
-use Prim.Native.Nat.{ℕ, suc, _+_, _<_}
+use Prim.Native.Nat.{ℕ, suc, _<_}
 use lib.Dec.{T}
 use lib.Ieee.{Float, nan}
 use lib.ListN.{length, getD}
@@ -14,7 +14,7 @@ use Rattle.rules.specs.Sizes.{in-bounds, count}
 use Rattle.rules.specs.Values.{Carried}
 use Rattle.spread.specs.declared.search.Search.{Search}
 use Rattle.spread.specs.declared.begin.First.{First}
-use Rattle.spread.specs.Nets.{Grids, net-of, carries}
+use Rattle.spread.specs.Nets.{net-of, carries}
 use Rattle.spread.specs.Steps.{labelled}
 use Rattle.spread.specs.Waiting.{Waiting}
 use Rattle.spread.specs.Buffers.{Buffers}

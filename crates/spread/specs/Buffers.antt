@@ -1,8 +1,8 @@
 -- The buffers that the loop works in, and how they hold a state of the machine. Definitions only.
 use mathlib.Core.Bool.{true, false, cond}
-use mathlib.Core.List.{List, _∷_}
+use mathlib.Core.List.{List}
 use mathlib.Core.Path.{_≡_}
-use Prim.Native.Nat.{ℕ, _<_}
+use Prim.Native.Nat.{ℕ}
 use lib.Ieee.{Float}
 use lib.ListN.{length, set}
 use Rattle.cells.specs.Ring.{contents}

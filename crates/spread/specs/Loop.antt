@@ -69,7 +69,7 @@ pub record Taking (search : Search) (obstacles : List ℕ) (b : Buffers) : Type 
   pub setting : Setting search obstacles
   pub some : 0 < length (contents (b .queue) (b .ring))
 
--- The head was taken.
+-- The head was taken, in whatever net has the rule's steps.
 pub record TookCell (search : Search) (obstacles : List ℕ) (before after : Buffers) : Type 0 where
   pub good : Good search after
   pub holds :
@@ -83,20 +83,20 @@ pub record Ready (search : Search) (obstacles : List ℕ) (net : Net Carried) (b
   pub holds : Holds search (initial net) b
   pub within : (k : ℕ) → takes net k (initial net) ≤ count (search .size) * count (search .size)
 
+-- The loop is to run: there is a net that they are ready for.
 pub record Running (search : Search) (obstacles : List ℕ) (b : Buffers) : Type 0 where
   pub good : Good search b
   pub setting : Setting search obstacles
   pub ready : (net : Net Carried) × Ready search obstacles net b
 
--- After r takes, each of them made, the buffers hold what the machine does.
-pub record Taken (search : Search) (net : Net Carried) (b : Buffers) (r : ℕ) : Type 0 where
-  pub holds : Holds search (run net r (initial net)) b
+-- Each of r takes was made, after them nothing waits, and the buffers hold the labels.
+pub record Ended (search : Search) (net : Net Carried) (distances carried : List Float) (r : ℕ) : Type 0 where
   pub all : takes net r (initial net) ≡ r
+  pub stopped : run net r (initial net) .waiting ≡ []
+  pub labels : run net r (initial net) .labels ≡ labels-of search distances carried
 
--- So it is for every net that they were ready for, and nothing waits.
+-- So it is for every net that the buffers were ready for.
 pub record Ran (search : Search) (obstacles : List ℕ) (before : Buffers) (distances carried : List Float) (marks queue : List ℕ) (r : ℕ) : Type 0 where
   pub lengths : Lengths search distances carried marks queue
-  pub labels : (net : Net Carried) → Ready search obstacles net before → run net r (initial net) .labels ≡ labels-of search distances carried
-  pub stopped : (net : Net Carried) → Ready search obstacles net before → run net r (initial net) .waiting ≡ []
-  pub all : (net : Net Carried) → Ready search obstacles net before → takes net r (initial net) ≡ r
+  pub ended : (net : Net Carried) → Ready search obstacles net before → Ended search net distances carried r
   pub kept : carries (search .rule) ≡ false → carried ≡ before .carried

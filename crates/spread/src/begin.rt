@@ -109,7 +109,8 @@ fn begin_cell(
     ring: Ring,
 ) -> Ring
     requires { ⌜ BeginsCell search (now targets) (now values) cell (buffers (now distances) (now carried) (now marks) (now queue) ring) ⌝ }
-    ensures { λ r. ⌜ BeganTo search (now (targets .entry)) (now (values .entry)) (cell + 1) (now (carried .entry)) (buffers (now (distances .exit)) (now (carried .exit)) (now (marks .exit)) (now (queue .exit)) r) ⌝ }
+    ensures { λ r. ⌜ BeganTo search (now (targets .entry)) (now (values .entry)) (cell + 1) (now (carried .entry))
+        (buffers (now (distances .exit)) (now (carried .exit)) (now (marks .exit)) (now (queue .exit)) r) ⌝ }
 {
     let at = cell as usize;
     let label = first_label(search, targets, values, cell);
@@ -130,7 +131,8 @@ pub fn begin(
     queue: &mut [u32],
 ) -> Ring
     requires { ⌜ Begins search (now targets) (now values) (now distances) (now carried) (now marks) (now queue) ⌝ }
-    ensures { λ r. ⌜ BeganTo search (now (targets .entry)) (now (values .entry)) (count (search .size)) (now (carried .entry)) (buffers (now (distances .exit)) (now (carried .exit)) (now (marks .exit)) (now (queue .exit)) r) ⌝ }
+    ensures { λ r. ⌜ BeganTo search (now (targets .entry)) (now (values .entry)) (count (search .size)) (now (carried .entry))
+        (buffers (now (distances .exit)) (now (carried .exit)) (now (marks .exit)) (now (queue .exit)) r) ⌝ }
 {
     let end = cell_count(search.size) as u32;
     let mut ring = Ring::new();

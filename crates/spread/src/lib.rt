@@ -1,13 +1,16 @@
 // The loop of all searches: cells are taken from the queue and their neighbours tried, until nothing waits.
 //
 // A search is a rule over its grids. `spread` begins with the starting cells and runs to the end; it
-// promises the labels and the takes of the rule's net, whatever the buffers held before.
+// promises the labels and the takes of the rule's net, whatever the buffers held before
+// (specs/Promise.antt). Each function below it promises that the buffers hold, after it, the machine's
+// operation on the state that they held before (specs/Buffers.antt).
 mod begin;
 mod relax;
 mod run;
 mod scan;
 mod search;
 mod steps;
+mod take;
 mod waiting;
 
 pub use run::spread;

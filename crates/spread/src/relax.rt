@@ -73,7 +73,9 @@ fn store(
     ring: Ring,
 ) -> Ring
     requires { ⌜ Trying search cell (buffers (now distances) (now carried) (now marks) (now queue) ring) ⌝ }
-    ensures { λ r. ⌜ Does search (storing cell (labelled (search .rule) distance value)) (buffers (now (distances .entry)) (now (carried .entry)) (now (marks .entry)) (now (queue .entry)) ring) (buffers (now (distances .exit)) (now (carried .exit)) (now (marks .exit)) (now (queue .exit)) r) ⌝ }
+    ensures { λ r. ⌜ Does search (storing cell (labelled (search .rule) distance value))
+        (buffers (now (distances .entry)) (now (carried .entry)) (now (marks .entry)) (now (queue .entry)) ring)
+        (buffers (now (distances .exit)) (now (carried .exit)) (now (marks .exit)) (now (queue .exit)) r) ⌝ }
 {
     let at = cell as usize;
     distances[at] = distance;
@@ -95,7 +97,9 @@ pub fn relax(
     ring: Ring,
 ) -> Ring
     requires { ⌜ Trying search cell (buffers (now distances) (now carried) (now marks) (now queue) ring) ⌝ }
-    ensures { λ r. ⌜ Does search (relaxing (left-label search left) cell (entering (search .rule) step cell)) (buffers (now (distances .entry)) (now (carried .entry)) (now (marks .entry)) (now (queue .entry)) ring) (buffers (now (distances .exit)) (now (carried .exit)) (now (marks .exit)) (now (queue .exit)) r) ⌝ }
+    ensures { λ r. ⌜ Does search (relaxing (left-label search left) cell (entering (search .rule) step cell))
+        (buffers (now (distances .entry)) (now (carried .entry)) (now (marks .entry)) (now (queue .entry)) ring)
+        (buffers (now (distances .exit)) (now (carried .exit)) (now (marks .exit)) (now (queue .exit)) r) ⌝ }
 {
     let at = cell as usize;
     let rule = search.rule;

@@ -1,7 +1,6 @@
-// The neighbours of a cell are tried: first the straight ones, then the diagonal ones.
+// The neighbours of a cell are tried: the straight ones, and the diagonal ones.
 use crate::relax::Left;
 use crate::relax::relax;
-use crate::search::Rule;
 use crate::search::Search;
 use crate::steps::may_diagonal;
 use crate::steps::may_straight;
@@ -13,7 +12,7 @@ ghost use Prim.Native.Nat.{_-_};
 ghost use lib.ListN.{take, drop};
 ghost use Rattle.spread.specs.Steps.{straight-steps, diagonal-steps};
 ghost use Rattle.spread.specs.Buffers.{buffers, scanning, Does};
-ghost use Rattle.spread.specs.Loop.{left-label, listed-steps, Entering, Scanning};
+ghost use Rattle.spread.specs.Loop.{left-label, Entering, Scanning};
 
 // Tries a straight neighbour, if the rule permits the step.
 fn try_straight(
@@ -28,7 +27,9 @@ fn try_straight(
     ring: Ring,
 ) -> Ring
     requires { ⌜ Entering search (now obstacles) (left .cell) cell (buffers (now distances) (now carried) (now marks) (now queue) ring) ⌝ }
-    ensures { λ r. ⌜ Does search (scanning (left-label search left) (straight-steps search (now (obstacles .entry)) (cell ∷ []))) (buffers (now (distances .entry)) (now (carried .entry)) (now (marks .entry)) (now (queue .entry)) ring) (buffers (now (distances .exit)) (now (carried .exit)) (now (marks .exit)) (now (queue .exit)) r) ⌝ }
+    ensures { λ r. ⌜ Does search (scanning (left-label search left) (straight-steps search (now (obstacles .entry)) (cell ∷ [])))
+        (buffers (now (distances .entry)) (now (carried .entry)) (now (marks .entry)) (now (queue .entry)) ring)
+        (buffers (now (distances .exit)) (now (carried .exit)) (now (marks .exit)) (now (queue .exit)) r) ⌝ }
 {
     let rule = search.rule;
     if may_straight(rule, obstacles, cell) {
@@ -60,7 +61,9 @@ fn try_diagonal(
     ring: Ring,
 ) -> Ring
     requires { ⌜ Entering search (now obstacles) (left .cell) cell (buffers (now distances) (now carried) (now marks) (now queue) ring) ⌝ }
-    ensures { λ r. ⌜ Does search (scanning (left-label search left) (diagonal-steps search (now (obstacles .entry)) (left .cell) (cell ∷ []))) (buffers (now (distances .entry)) (now (carried .entry)) (now (marks .entry)) (now (queue .entry)) ring) (buffers (now (distances .exit)) (now (carried .exit)) (now (marks .exit)) (now (queue .exit)) r) ⌝ }
+    ensures { λ r. ⌜ Does search (scanning (left-label search left) (diagonal-steps search (now (obstacles .entry)) (left .cell) (cell ∷ [])))
+        (buffers (now (distances .entry)) (now (carried .entry)) (now (marks .entry)) (now (queue .entry)) ring)
+        (buffers (now (distances .exit)) (now (carried .exit)) (now (marks .exit)) (now (queue .exit)) r) ⌝ }
 {
     let rule = search.rule;
     let size = search.size;
@@ -93,8 +96,11 @@ pub fn scan_straight(
     queue: &mut [u32],
     ring: Ring,
 ) -> Ring
-    requires { ⌜ Scanning search (now obstacles) (left .cell) (now cells) 0 end (buffers (now distances) (now carried) (now marks) (now queue) ring) ⌝ }
-    ensures { λ r. ⌜ Does search (scanning (left-label search left) (straight-steps search (now (obstacles .entry)) (take end (now (cells .entry))))) (buffers (now (distances .entry)) (now (carried .entry)) (now (marks .entry)) (now (queue .entry)) ring) (buffers (now (distances .exit)) (now (carried .exit)) (now (marks .exit)) (now (queue .exit)) r) ⌝ }
+    requires { ⌜ Scanning search (now obstacles) (left .cell) (now cells) 0 end
+        (buffers (now distances) (now carried) (now marks) (now queue) ring) ⌝ }
+    ensures { λ r. ⌜ Does search (scanning (left-label search left) (straight-steps search (now (obstacles .entry)) (take end (now (cells .entry)))))
+        (buffers (now (distances .entry)) (now (carried .entry)) (now (marks .entry)) (now (queue .entry)) ring)
+        (buffers (now (distances .exit)) (now (carried .exit)) (now (marks .exit)) (now (queue .exit)) r) ⌝ }
 {
     let mut waiting = ring;
     let mut k: usize = 0;
@@ -129,8 +135,11 @@ pub fn scan_diagonal(
     queue: &mut [u32],
     ring: Ring,
 ) -> Ring
-    requires { ⌜ Scanning search (now obstacles) (left .cell) (now cells) start end (buffers (now distances) (now carried) (now marks) (now queue) ring) ⌝ }
-    ensures { λ r. ⌜ Does search (scanning (left-label search left) (diagonal-steps search (now (obstacles .entry)) (left .cell) (take (end - start) (drop start (now (cells .entry)))))) (buffers (now (distances .entry)) (now (carried .entry)) (now (marks .entry)) (now (queue .entry)) ring) (buffers (now (distances .exit)) (now (carried .exit)) (now (marks .exit)) (now (queue .exit)) r) ⌝ }
+    requires { ⌜ Scanning search (now obstacles) (left .cell) (now cells) start end
+        (buffers (now distances) (now carried) (now marks) (now queue) ring) ⌝ }
+    ensures { λ r. ⌜ Does search (scanning (left-label search left) (diagonal-steps search (now (obstacles .entry)) (left .cell) (take (end - start) (drop start (now (cells .entry))))))
+        (buffers (now (distances .entry)) (now (carried .entry)) (now (marks .entry)) (now (queue .entry)) ring)
+        (buffers (now (distances .exit)) (now (carried .exit)) (now (marks .exit)) (now (queue .exit)) r) ⌝ }
 {
     let mut waiting = ring;
     let mut k = start;
@@ -149,132 +158,4 @@ pub fn scan_diagonal(
         k += 1;
     }
     waiting
-}
-
-// Tries all neighbours: of the listed cells those before `straight`, and from there to before `count`.
-fn scan_both(
-    search: Search,
-    obstacles: &[u8],
-    left: Left,
-    cells: &[u32; 8],
-    straight: usize,
-    count: usize,
-    distances: &mut [f32],
-    carried: &mut [f32],
-    marks: &mut [u8],
-    queue: &mut [u32],
-    ring: Ring,
-) -> Ring
-    requires { ⌜ Scanning search (now obstacles) (left .cell) (now cells) straight count (buffers (now distances) (now carried) (now marks) (now queue) ring) ⌝ }
-    ensures { λ r. ⌜ Does search (scanning (left-label search left) (listed-steps search (now (obstacles .entry)) (left .cell) (now (cells .entry)) straight count)) (buffers (now (distances .entry)) (now (carried .entry)) (now (marks .entry)) (now (queue .entry)) ring) (buffers (now (distances .exit)) (now (carried .exit)) (now (marks .exit)) (now (queue .exit)) r) ⌝ }
-{
-    let waiting = scan_straight(
-        search,
-        obstacles,
-        left,
-        cells,
-        straight,
-        distances,
-        carried,
-        marks,
-        queue,
-        ring,
-    );
-    scan_diagonal(
-        search,
-        obstacles,
-        left,
-        cells,
-        straight,
-        count,
-        distances,
-        carried,
-        marks,
-        queue,
-        waiting,
-    )
-}
-
-// Tries all neighbours. The rule is matched here, once for each take, so that in each arm the compiler sees a constant rule.
-pub fn scan(
-    search: Search,
-    obstacles: &[u8],
-    left: Left,
-    cells: &[u32; 8],
-    straight: usize,
-    count: usize,
-    distances: &mut [f32],
-    carried: &mut [f32],
-    marks: &mut [u8],
-    queue: &mut [u32],
-    ring: Ring,
-) -> Ring
-    requires { ⌜ Scanning search (now obstacles) (left .cell) (now cells) straight count (buffers (now distances) (now carried) (now marks) (now queue) ring) ⌝ }
-    ensures { λ r. ⌜ Does search (scanning (left-label search left) (listed-steps search (now (obstacles .entry)) (left .cell) (now (cells .entry)) straight count)) (buffers (now (distances .entry)) (now (carried .entry)) (now (marks .entry)) (now (queue .entry)) ring) (buffers (now (distances .exit)) (now (carried .exit)) (now (marks .exit)) (now (queue .exit)) r) ⌝ }
-{
-    let rule = search.rule;
-    let size = search.size;
-    let limit = search.limit;
-    match rule {
-        Rule::Plain => {
-            let plain = Search {
-                rule: Rule::Plain,
-                size,
-                limit,
-            };
-            scan_both(
-                plain,
-                obstacles,
-                left,
-                cells,
-                straight,
-                count,
-                distances,
-                carried,
-                marks,
-                queue,
-                ring,
-            )
-        }
-        Rule::Obstacles(diagonals) => {
-            let avoiding = Search {
-                rule: Rule::Obstacles(diagonals),
-                size,
-                limit,
-            };
-            scan_both(
-                avoiding,
-                obstacles,
-                left,
-                cells,
-                straight,
-                count,
-                distances,
-                carried,
-                marks,
-                queue,
-                ring,
-            )
-        }
-        Rule::Closest => {
-            let closest = Search {
-                rule: Rule::Closest,
-                size,
-                limit,
-            };
-            scan_both(
-                closest,
-                obstacles,
-                left,
-                cells,
-                straight,
-                count,
-                distances,
-                carried,
-                marks,
-                queue,
-                ring,
-            )
-        }
-    }
 }

@@ -1,8 +1,7 @@
 -- `begin::begin` meets its contract: before each turn the cells that were passed have begun. Assumes nothing.
-use mathlib.Core.Path.{_≡_, sym, _∙_, subst}
+use mathlib.Core.Path.{_≡_, sym, _∙_}
 use Prim.Native.Nat.{_≤_, _-_}
 use native.Mathlib.Omega.{arith}
-use borrow.Author.Needs.{needs}
 use Rattle.rules.specs.Sizes.{count}
 use Rattle.spread.specs.Buffers.{buffers}
 use Rattle.spread.specs.Begin.{BeganTo}

@@ -1,5 +1,5 @@
 -- `begin::begin_cell` meets its contract. Assumes nothing.
-use Rattle.spread.proofs.Beginning.{first-inputs, value-inside, mark-begins, cell-begun}
+use Rattle.spread.proofs.Beginning.{value-inside, cell-begun}
 use borrow.Author.Needs.{needs}
 use Rattle.spread.proofs.begin.begin_cell.Statement.{statement}
 use Rattle.spread.proofs.begin.begin_cell.Tie as tie

@@ -1,6 +1,4 @@
 -- `begin::first_label` meets its contract: by the rule that an arm is for. Assumes nothing.
-use mathlib.Core.Path.{ap}
-use Rattle.spread.specs.Nets.{carries}
 use Rattle.spread.proofs.Firsts.{plain-first, obstacles-first, closest-first, value-read}
 use borrow.Author.Needs.{needs}
 use Rattle.spread.proofs.begin.first_label.Statement.{statement}

@@ -1,9 +1,9 @@
--- `run::leave` meets its contract. Assumes nothing.
+-- `take::leave` meets its contract. Assumes nothing.
 use mathlib.Core.Path.{sym, _∙_}
 use Rattle.spread.proofs.Taking.{left-without-value}
 use borrow.Author.Needs.{needs}
-use Rattle.spread.proofs.run.leave.Statement.{statement}
-use Rattle.spread.proofs.run.leave.Tie as tie
+use Rattle.spread.proofs.take.leave.Statement.{statement}
+use Rattle.spread.proofs.take.leave.Tie as tie
 
 mul-distance : tie.Need-mul-distance
 mul-distance c = search needs

@@ -1,8 +1,8 @@
--- `scan::scan_both` meets its contract. Assumes nothing.
+-- `take::scan` meets its contract. Assumes nothing.
 use Rattle.spread.proofs.Taking.{both-scanned}
 use borrow.Author.Needs.{needs}
-use Rattle.spread.proofs.scan.scan_both.Statement.{statement}
-use Rattle.spread.proofs.scan.scan_both.Tie as tie
+use Rattle.spread.proofs.take.scan.Statement.{statement}
+use Rattle.spread.proofs.take.scan.Tie as tie
 
 scan-straight-requires : tie.Need-scan-straight-requires
 scan-straight-requires c κs = search needs
@@ -26,8 +26,8 @@ returns : tie.Need-returns
 returns c = let start = c .before .before .before .before .before .before .before .before .before .before .before .before .before .before .before .before .before .before .before .before .before .before .before .before .before .before .before .before .before .before .before in
     both-scanned (start .args .search) (start .args .obstacles .now) (start .args .left) (start .args .cells .now) (start .args .straight) (start .args .count) (c .before .before .before .before .before .before .before .before .before .before .before .before .before .before .before .before .before .before .before .before .before .scan-straight .ensures) (c .before .before .before .before .before .before .before .before .scan-diagonal .ensures)
 
-pub scan-both-spec : {M : Type 1} → statement M
-scan-both-spec =
+pub scan-spec : {M : Type 1} → statement M
+scan-spec =
     tie.close
     (tie.spec
     scan-straight-requires
