@@ -3,7 +3,7 @@ use mathlib.Core.Path.{_≡_, refl}
 use mathlib.Core.Bool.{Bool, true, false, not, _&&_, false≢true}
 use Prim.Native.Nat.{_*_}
 use lib.Dec.{T, eqb, eqb-refl}
-use lib.Ieee.{Float, nan, inf, fin, up, down, lt, ne, isNan}
+use lib.Ieee.{Float, Format, nan, inf, fin, up, down, lt, ne, isNan, add, mul}
 
 same-number : (b : Bool) → T b → not (b && true) ≡ false
 same-number true t = refl
@@ -31,3 +31,21 @@ unfolding lt
 none-below-nan nan = refl
 none-below-nan (inf s) = refl
 none-below-nan (fin s m e) = refl
+
+-- A NaN is below nothing.
+pub nan-below-none : (y : Float) → lt nan y ≡ false
+unfolding lt
+nan-below-none y = refl
+
+-- A sum or a product with a NaN is NaN.
+pub add-nan : (f : Format) (x : Float) → add f x nan ≡ nan
+unfolding add
+add-nan f nan = refl
+add-nan f (inf s) = refl
+add-nan f (fin s m e) = refl
+
+pub mul-nan : (f : Format) (x : Float) → mul f x nan ≡ nan
+unfolding mul
+mul-nan f nan = refl
+mul-nan f (inf s) = refl
+mul-nan f (fin s m e) = refl

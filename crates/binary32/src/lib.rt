@@ -6,11 +6,13 @@
 // theorem of proofs/RootOfTwo.antt). Its laws on binary32 (order, rounding, sums, products, exact
 // results) are in proofs/, for the crates above.
 mod nodata;
+mod numbers;
 mod steps;
 
 pub use nodata::is_nodata;
 pub use nodata::nan;
 pub use nodata::one_nan;
+pub use numbers::infinity;
 pub use steps::DIAGONAL;
 pub use steps::STRAIGHT;
 pub use steps::diagonal_step;

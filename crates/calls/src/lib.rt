@@ -28,7 +28,6 @@ pub use judge_sums::judge_8;
 pub use judge_values::judge_4;
 pub use judge_values::judge_5;
 pub use judge_values::judge_6;
-pub use limits::infinity;
 pub use scaling::scale;
 pub use scaling::settle;
 pub use zero::fill_nan;

@@ -1,16 +1,9 @@
 // The tests on a call's numbers: cell size, cap, time limit and budget.
+use binary32::infinity;
 use binary32::is_nodata;
 use rules::Spacing;
 ghost use mathlib.Core.Path.{_≡_};
-ghost use Rattle.rules.specs.Numbers as rules;
 ghost use Rattle.rules.specs.Sizes.{bad-cell-size, nan-limit, bad-budget};
-
-// The limit that limits nothing. A constant cannot hold it.
-pub fn infinity() -> f32
-    ensures { λ r. ⌜ r ≡ rules.infinity ⌝ }
-{
-    1.0 / 0.0
-}
 
 // 4: whether the cell size is not finite or not above 0.
 pub fn bad_cell_size(spacing: Spacing) -> bool

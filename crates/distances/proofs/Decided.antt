@@ -8,7 +8,7 @@ use Rattle.rules.specs.declared.Spacing.{Spacing}
 use Rattle.calls.specs.declared.answer.Answer.{Answer}
 use Rattle.calls.specs.Promise.{slice, Same}
 use Rattle.calls.proofs.Promises.{promise-decides}
-use Rattle.distances.specs.Promise.{DistancesUpTo, Distance, DistanceWithObstacles}
+use Rattle.distances.specs.Promise.{DistancesUpTo, Distance, DistanceWithObstacles, TravelDistancesUpTo, TravelDistance}
 
 module _
     {r s : Answer} {answer answer₁ answer₂ : List Float} {marks marks₁ marks₂ queue queue₁ queue₂ : List ℕ}
@@ -32,3 +32,17 @@ module _
         → DistanceWithObstacles size targets obstacles-size obstacles spacing diagonals (slice answer answer₂) (slice marks marks₂) (slice queue queue₂) s
         → Same r s answer₁ answer₂ marks₁ marks₂ queue₁ queue₂
     distance-with-obstacles-decided obstacles-size obstacles spacing diagonals = promise-decides _
+
+    pub travel-distances-up-to-decided :
+        (times-size : Size) (times : List Float) (cap : Float)
+        → TravelDistancesUpTo size targets times-size times cap (slice answer answer₁) (slice marks marks₁) (slice queue queue₁) r
+        → TravelDistancesUpTo size targets times-size times cap (slice answer answer₂) (slice marks marks₂) (slice queue queue₂) s
+        → Same r s answer₁ answer₂ marks₁ marks₂ queue₁ queue₂
+    travel-distances-up-to-decided times-size times cap = promise-decides _
+
+    pub travel-distance-decided :
+        (times-size : Size) (times : List Float)
+        → TravelDistance size targets times-size times (slice answer answer₁) (slice marks marks₁) (slice queue queue₁) r
+        → TravelDistance size targets times-size times (slice answer answer₂) (slice marks marks₂) (slice queue queue₂) s
+        → Same r s answer₁ answer₂ marks₁ marks₂ queue₁ queue₂
+    travel-distance-decided times-size times = promise-decides _

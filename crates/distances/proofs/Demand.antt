@@ -1,63 +1,44 @@
 -- Demand 3, from the promises alone: it holds of whatever keeps them. Assumes nothing.
 use mathlib.Core.Bool.{Bool, false, not, _||_}
-use mathlib.Core.List.{List, [], _∷_, map}
-use mathlib.Core.Path.{_≡_, refl, ap, _∙_}
-use Prim.Native.Nat.{ℕ, zero, suc, _*_, _<_}
+use mathlib.Core.List.{List, map, map-id}
+use mathlib.Core.Path.{_≡_, refl, sym, ap, _∙_}
+use Prim.Native.Nat.{ℕ}
 use native.Mathlib.Omega.{arith}
 use lib.Dec.{T}
-use lib.Ieee.{Float, nan, binary32, mul, fits}
-use lib.ListN.{length, getD, length-map}
-use Rattle.fifo.specs.Machine.{Net, label, finish, takes-of}
+use lib.Ieee.{Float, nan, binary32, fits}
+use lib.ListN.{length, getD}
+use Rattle.fifo.specs.Machine.{Net, finish, takes-of}
 use Rattle.fifo.specs.Laws.{Laws, room}
-use Rattle.fifo.proofs.Search.{labels-length}
+use Rattle.fifo.proofs.Search.{read-length, read-at}
 use Rattle.rules.specs.declared.BarrierDiagonals.{BarrierDiagonals}
 use Rattle.rules.specs.declared.Size.{Size}
 use Rattle.rules.specs.declared.Spacing.{Spacing}
 use Rattle.rules.specs.Numbers.{infinity}
 use Rattle.rules.specs.Sizes.{Judged, count}
-use Rattle.rules.specs.Distances.{scaled, target, target-data, plain, free, with-obstacles, refusals-1, refusals-2, outcome-1, outcome-2}
+use Rattle.rules.specs.Distances.{scaled, target, target-data, plain, free, with-obstacles, both-data, travel, refusals-1, refusals-2, refusals-3, outcome-1, outcome-2, outcome-3}
 use Rattle.rules.specs.Paths.{HoldsLeastSums}
-use Rattle.rules.proofs.Inputs.{infinity-fits}
-use Rattle.rules.proofs.Accepted.{accepted-1, accepted-2}
-use Rattle.rules.proofs.Nets.{plain-laws, obstacles-laws}
-use Rattle.rules.proofs.LeastSums.{least-sums-1, least-sums-2}
+use Rattle.rules.proofs.Inputs.{AcceptedTimes, infinity-fits}
+use Rattle.rules.proofs.Accepted.{accepted-1, accepted-2, accepted-3}
+use Rattle.rules.proofs.Nets.{plain-laws, obstacles-laws, travel-laws}
+use Rattle.rules.proofs.LeastSums.{least-sums-1, least-sums-2, least-sums-3}
 use Rattle.calls.specs.declared.answer.Answer.{Answer}
 use Rattle.calls.specs.Answer.{takes, told}
 use Rattle.calls.specs.Given.{grid}
 use Rattle.calls.specs.Promise.{Slice}
 use Rattle.calls.proofs.Promises.{Found, accepted-found}
-use Rattle.distances.specs.Promise.{lengths, DistancesUpTo, Distance, DistanceWithObstacles}
-use Rattle.distances.specs.Demand.{number-of, Demand-3, Demand-3-plain, Demand-3-obstacles}
+use Rattle.distances.specs.Promise.{lengths, DistancesUpTo, Distance, DistanceWithObstacles, TravelDistancesUpTo, TravelDistance}
+use Rattle.distances.specs.Demand.{number-of, times-cell-size, Demand-3, Demand-3-plain, Demand-3-obstacles, Demand-3-travel}
 
--- A function over a list, at an index inside it, whatever the value outside.
-getD-map-inside : {A B : Type 0} (f : A → B) (l : List A) (c : ℕ) (d : A) (e : B) → c < length l → getD (map f l) c e ≡ f (getD l c d)
-getD-map-inside f [] c d e inside = absurd (omega arith)
-getD-map-inside f (x ∷ xs) zero d e inside = refl
-getD-map-inside f (x ∷ xs) (suc c) d e inside = getD-map-inside f xs c d e (omega arith)
-
-module _ {net : Net Float} (laws : Laws net) (cell-size : Float) where
-  finish-length : length (finish net .labels) ≡ net .cells
-  unfolding finish
-  finish-length = labels-length laws (net .cells * net .cells)
-
-  -- There is a label for each cell, and so an answer.
-  scaled-length : length (scaled cell-size (finish net .labels)) ≡ net .cells
-  unfolding scaled
-  scaled-length = length-map (finish net .labels) (λ d. mul binary32 d cell-size) ∙ finish-length
-
-  scaled-at : (c : ℕ) → c < net .cells → getD (scaled cell-size (finish net .labels)) c nan ≡ mul binary32 (label net (finish net) c) cell-size
-  unfolding scaled label
-  scaled-at c inside = getD-map-inside (λ d. mul binary32 d cell-size) (finish net .labels) c (net .first c) nan (omega (arith, finish-length))
-
-  -- Demand 3 of a call that found the takes and the scaled labels of this net's search, where those labels are the least sums.
+module _ {net : Net Float} (laws : Laws net) (answered : Float → Float) where
+  -- Demand 3 of a call that found the takes of this net's search, and answers its labels, where those labels are the least sums.
   demanded :
-      (size : Size) (enterable marked : ℕ → Bool) {Allowed : ℕ → ℕ → Float → Type 0} {cap : Float} {refusals : Judged} {answer : List Float} {t : ℕ}
+      (size : Size) (enterable marked : ℕ → Bool) {Allowed : ℕ → ℕ → Float → Type 0} {cap : Float} {refusals : Judged} {grid answer : List Float} {t : ℕ}
       → net .cells ≡ count size → room net ≡ number-of size enterable → HoldsLeastSums net marked Allowed cap
-      → Found refusals (takes-of net) t (scaled cell-size (finish net .labels)) answer
-      → Demand-3 size net (HoldsLeastSums net marked Allowed cap) enterable cell-size answer t
-  demanded size enterable marked counted entered least found = record {
-    all-cells = ap length (found .answer-is) ∙ scaled-length ∙ counted;
-    cell-scaled = λ c inside. ap (λ l. getD l c nan) (found .answer-is) ∙ scaled-at c (omega (arith, counted));
+      → grid ≡ map answered (finish net .labels) → Found refusals (takes-of net) t grid answer
+      → Demand-3 size net (HoldsLeastSums net marked Allowed cap) enterable answered answer t
+  demanded size enterable marked counted entered least labelled found = record {
+    all-cells = ap length (found .answer-is ∙ labelled) ∙ read-length laws answered ∙ counted;
+    cell-answered = λ c inside. ap (λ l. getD l c nan) (found .answer-is ∙ labelled) ∙ read-at laws answered nan c (omega (arith, counted));
     least-sums = least;
     takes-within-square = rw (found .takes-are, ← entered) (least .takes-within-square);
   }
@@ -68,13 +49,13 @@ pub demand-3-plain :
     (size : Size) (targets : List ℕ) (spacing : Spacing) (answer : Slice Float) (marks queue : Slice ℕ) (r : Answer) (t : ℕ)
     → T (fits binary32 (spacing .limit)) → DistancesUpTo size targets spacing answer marks queue r → told r ≡ takes t
     → Demand-3-plain (grid size targets) spacing (answer .after) t
-unfolding outcome-1 plain room
+unfolding outcome-1 plain room scaled
 demand-3-plain size targets spacing answer marks queue r t held promise said =
     let of = grid size targets in
     let found = accepted-found (refusals-1 of spacing (lengths answer marks queue)) _ _ t promise said in
     let (bounds, number) = accepted-1 of spacing (lengths answer marks queue) (found .passed) in
-    demanded (plain-laws of (spacing .limit) held number) (spacing .«cell_size») size (target-data of) (λ c. not (target-data of c)) refl refl
-    (least-sums-1 of (spacing .limit) bounds held number) found
+    demanded (plain-laws of (spacing .limit) held number) (times-cell-size spacing) size (target-data of) (λ c. not (target-data of c)) refl refl
+    (least-sums-1 of (spacing .limit) bounds held number) refl found
 
 -- A distance without a limit has infinity as its cap.
 pub demand-3-uncapped :
@@ -88,10 +69,34 @@ pub demand-3-obstacles :
     (size : Size) (targets : List ℕ) (obstacles-size : Size) (obstacles : List ℕ) (spacing : Spacing) (diagonals : BarrierDiagonals) (answer : Slice Float) (marks queue : Slice ℕ)
     (r : Answer) (t : ℕ) → DistanceWithObstacles size targets obstacles-size obstacles spacing diagonals answer marks queue r → told r ≡ takes t
     → Demand-3-obstacles (grid size targets) (grid obstacles-size obstacles) spacing diagonals (answer .after) t
-unfolding outcome-2 with-obstacles room
+unfolding outcome-2 with-obstacles room scaled
 demand-3-obstacles size targets obstacles-size obstacles spacing diagonals answer marks queue r t promise said =
     let of = grid size targets in
     let avoided = grid obstacles-size obstacles in
     let found = accepted-found (refusals-2 of avoided spacing (lengths answer marks queue)) _ _ t promise said in
-    demanded (obstacles-laws of avoided diagonals) (spacing .«cell_size») size (λ c. target of c || free avoided c) (λ c. false) refl refl
-    (least-sums-2 of avoided diagonals (accepted-2 of avoided spacing (lengths answer marks queue) (found .passed))) found
+    demanded (obstacles-laws of avoided diagonals) (times-cell-size spacing) size (λ c. target of c || free avoided c) (λ c. false) refl refl
+    (least-sums-2 of avoided diagonals (accepted-2 of avoided spacing (lengths answer marks queue) (found .passed))) refl found
+
+-- The times of a call are values of binary32, as those of every slice of the code are.
+pub demand-3-travel :
+    (size : Size) (targets : List ℕ) (times-size : Size) (times : List Float) (cap : Float) (answer : Slice Float) (marks queue : Slice ℕ) (r : Answer) (t : ℕ)
+    → ((c : ℕ) → T (fits binary32 (getD times c nan))) → T (fits binary32 cap)
+    → TravelDistancesUpTo size targets times-size times cap answer marks queue r → told r ≡ takes t
+    → Demand-3-travel (grid size targets) (grid times-size times) cap (answer .after) t
+unfolding outcome-3 travel room
+demand-3-travel size targets times-size times cap answer marks queue r t times-held held promise said =
+    let of = grid size targets in
+    let timed = grid times-size times in
+    let found = accepted-found (refusals-3 of timed cap (lengths answer marks queue)) _ _ t promise said in
+    let (bounds, number, none-negative) = accepted-3 of timed cap (lengths answer marks queue) (found .passed) in
+    let times-good : AcceptedTimes timed = record { held = times-held; none-negative = none-negative } in
+    demanded (travel-laws of timed cap times-good held number) (λ d. d) size (both-data of timed) (λ c. not (both-data of timed c)) refl refl
+    (least-sums-3 of timed cap times-good held number) (sym (map-id _)) found
+
+-- Without a limit the cap is infinity.
+pub demand-3-travel-uncapped :
+    (size : Size) (targets : List ℕ) (times-size : Size) (times : List Float) (answer : Slice Float) (marks queue : Slice ℕ) (r : Answer) (t : ℕ)
+    → ((c : ℕ) → T (fits binary32 (getD times c nan))) → TravelDistance size targets times-size times answer marks queue r → told r ≡ takes t
+    → Demand-3-travel (grid size targets) (grid times-size times) infinity (answer .after) t
+demand-3-travel-uncapped size targets times-size times answer marks queue r t times-held promise said =
+    demand-3-travel size targets times-size times infinity answer marks queue r t times-held infinity-fits promise said

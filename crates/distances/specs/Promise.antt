@@ -12,7 +12,7 @@ use Rattle.rules.specs.declared.Spacing.{Spacing}
 use Rattle.rules.specs.declared.BarrierDiagonals.{BarrierDiagonals}
 use Rattle.rules.specs.Sizes.{Lent, Outcome, accepted}
 use Rattle.rules.specs.Numbers.{infinity}
-use Rattle.rules.specs.Distances.{scaled, outcome-1, outcome-2}
+use Rattle.rules.specs.Distances.{scaled, outcome-1, outcome-2, outcome-3}
 use Rattle.calls.specs.declared.answer.Answer.{Answer}
 use Rattle.calls.specs.Given.{grid, lent}
 use Rattle.calls.specs.Promise.{Slice, Promised}
@@ -38,18 +38,33 @@ abbrev pub DistanceWithObstacles : Size → List ℕ → Size → List ℕ → S
 DistanceWithObstacles targets-size targets obstacles-size obstacles spacing diagonals answer marks queue r =
     Promised (outcome-2 (grid targets-size targets) (grid obstacles-size obstacles) spacing diagonals (lengths answer marks queue)) r answer marks queue
 
+-- 3: travel_distances_up_to.
+abbrev pub TravelDistancesUpTo : Size → List ℕ → Size → List Float → Float → Slice Float → Slice ℕ → Slice ℕ → Answer → Type 0
+TravelDistancesUpTo targets-size targets times-size times cap answer marks queue r =
+    Promised (outcome-3 (grid targets-size targets) (grid times-size times) cap (lengths answer marks queue)) r answer marks queue
+
+-- travel_distance: the same, where the cap is infinity.
+abbrev pub TravelDistance : Size → List ℕ → Size → List Float → Slice Float → Slice ℕ → Slice ℕ → Answer → Type 0
+TravelDistance targets-size targets times-size times = TravelDistancesUpTo targets-size targets times-size times infinity
+
 -- ---- the search once no test refuses
 
--- No value goes along. What is lent for the values is never read.
-abbrev pub no-values : List Float
-no-values = plus-zero ∷ []
+-- What is lent for a grid of values, or of times, that the rule never reads.
+abbrev pub unread : List Float
+unread = plus-zero ∷ []
 
 -- It can be spread, and no value goes along.
 pub record Searches (search : Search) (of : Grids) (answer : List Float) (marks queue : List ℕ) : Type 0 where
   pub alone : carries (search .rule) ≡ false
   pub spreads : (carried : List Float) → Spreads search of answer carried marks queue
 
--- The takes of the net, and its distances times the cell size.
+-- The takes of the net, and its distances.
+unfoldable pub found : Search → Grids → Outcome
+found search of =
+    let net = net-of search of in
+    accepted (takes-of net) (map (λ l. l .0) (finish net .labels))
+
+-- The same, and the distances are multiplied by the cell size.
 unfoldable pub searched : Search → Grids → Spacing → Outcome
 searched search of spacing =
     let net = net-of search of in

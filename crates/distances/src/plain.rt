@@ -1,8 +1,8 @@
 // Search 1, with a cap and without.
 use crate::search::search_distances;
+use binary32::infinity;
 use calls::Answer;
 use calls::Judged;
-use calls::infinity;
 use calls::judge_1;
 use rules::Size;
 use rules::Spacing;

@@ -2,6 +2,7 @@
 use calls::Answer;
 use calls::Counts;
 use calls::scale;
+use calls::settle;
 use calls::zero_bytes;
 use calls::zero_cells;
 use rules::Spacing;
@@ -9,9 +10,40 @@ use spread::Search;
 use spread::spread;
 ghost use Rattle.calls.specs.Promise.{slice, Promised};
 ghost use Rattle.spread.specs.Promise.{grids};
-ghost use Rattle.distances.specs.Promise.{no-values, Searches, searched};
+ghost use Rattle.distances.specs.Promise.{unread, Searches, found, searched};
 
-// Finds the distances, scales them, and leaves the work buffers zero.
+// Finds the distances, and leaves the work buffers zero.
+fn find_distances(
+    search: Search,
+    targets: &[u8],
+    obstacles: &[u8],
+    times: &[f32],
+    answer: &mut [f32],
+    marks: &mut [u8],
+    queue: &mut [u32],
+) -> Answer
+    requires { ⌜ Searches search (grids (now targets) (now obstacles) (now times) unread) (now answer) (now marks) (now queue) ⌝ }
+    ensures { λ r. ⌜ Promised (found search (grids (now (targets .entry)) (now (obstacles .entry)) (now (times .entry)) unread)) r (slice (now (answer .entry)) (now (answer .exit))) (slice (now (marks .entry)) (now (marks .exit))) (slice (now (queue .entry)) (now (queue .exit))) ⌝ }
+{
+    let values = [0.0; 1];
+    let mut carried = [0.0; 1];
+    let takes = spread(
+        search,
+        targets,
+        obstacles,
+        times,
+        &values,
+        answer,
+        &mut carried,
+        marks,
+        queue,
+    );
+    zero_bytes(marks);
+    zero_cells(queue);
+    Answer::Accepted(Counts { takes })
+}
+
+// The same where no rule reads times, and the distances are scaled.
 pub fn search_distances(
     search: Search,
     targets: &[u8],
@@ -21,23 +53,28 @@ pub fn search_distances(
     marks: &mut [u8],
     queue: &mut [u32],
 ) -> Answer
-    requires { ⌜ Searches search (grids (now targets) (now obstacles) no-values) (now answer) (now marks) (now queue) ⌝ }
-    ensures { λ r. ⌜ Promised (searched search (grids (now (targets .entry)) (now (obstacles .entry)) no-values) spacing) r (slice (now (answer .entry)) (now (answer .exit))) (slice (now (marks .entry)) (now (marks .exit))) (slice (now (queue .entry)) (now (queue .exit))) ⌝ }
+    requires { ⌜ Searches search (grids (now targets) (now obstacles) unread unread) (now answer) (now marks) (now queue) ⌝ }
+    ensures { λ r. ⌜ Promised (searched search (grids (now (targets .entry)) (now (obstacles .entry)) unread unread) spacing) r (slice (now (answer .entry)) (now (answer .exit))) (slice (now (marks .entry)) (now (marks .exit))) (slice (now (queue .entry)) (now (queue .exit))) ⌝ }
 {
-    let values = [0.0; 1];
-    let mut carried = [0.0; 1];
-    let takes = spread(
-        search,
-        targets,
-        obstacles,
-        &values,
-        answer,
-        &mut carried,
-        marks,
-        queue,
-    );
+    let times = [0.0; 1];
+    let found = find_distances(search, targets, obstacles, &times, answer, marks, queue);
     scale(answer, spacing);
-    zero_bytes(marks);
-    zero_cells(queue);
-    Answer::Accepted(Counts { takes })
+    found
+}
+
+// The same where no rule reads obstacles, and the distances are not scaled.
+pub fn search_travel(
+    search: Search,
+    targets: &[u8],
+    times: &[f32],
+    answer: &mut [f32],
+    marks: &mut [u8],
+    queue: &mut [u32],
+) -> Answer
+    requires { ⌜ Searches search (grids (now targets) (now targets) (now times) unread) (now answer) (now marks) (now queue) ⌝ }
+    ensures { λ r. ⌜ Promised (found search (grids (now (targets .entry)) (now (targets .entry)) (now (times .entry)) unread)) r (slice (now (answer .entry)) (now (answer .exit))) (slice (now (marks .entry)) (now (marks .exit))) (slice (now (queue .entry)) (now (queue .exit))) ⌝ }
+{
+    let found = find_distances(search, targets, targets, times, answer, marks, queue);
+    settle(answer);
+    found
 }

@@ -4,6 +4,7 @@ pub mod Cases
 pub mod Lists
 pub mod Induction
 pub mod Runs
+pub mod Entries
 pub mod Order
 pub mod Sound
 pub mod Ends

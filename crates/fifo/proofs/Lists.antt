@@ -7,7 +7,7 @@ use Prim.Native.Nat.{ℕ, zero, suc, _+_, _<_, _≤_, suc-le-suc}
 use native.Mathlib.Decide.{ℕ-discrete}
 use native.Mathlib.Nat.{zero-add, add-zero, add-suc, suc-add}
 use native.Mathlib.Omega.{arith}
-use borrow.Author.Tests.{eqb-true, eq-eqb}
+use borrow.Author.Tests.{eqb-true, eq-eqb, ne-eqb}
 use lib.Dec.{T, eqb}
 use lib.ListN.{length, getD}
 use Rattle.fifo.specs.Machine.{among, joined, table, passing}
@@ -75,6 +75,30 @@ pub in-map : {A B : Type 0} (g : A → B) (b : B) (l : List A) → In b (map g l
 in-map g b [] i = absurd i
 in-map g b (a ∷ l) (inl p) = (a, inl refl, p)
 in-map g b (a ∷ l) (inr i) = let r = in-map g b l i in (r .0, inr (r .1), r .2)
+
+-- What `among` says of a cell that is not in the list, of another cell than the first or the last, and of the last.
+pub not-among : (c : ℕ) (l : List ℕ) → (In c l → ⊥) → among c l ≡ false
+not-among c l out = ⊎-elim (λ t. absurd (out (among-in c l t))) (λ f. f) (tested (among c l))
+
+pub among-other : (c v : ℕ) (l : List ℕ) → (c ≡ v → ⊥) → among c (l ++ v ∷ []) ≡ among c l
+unfolding among
+among-other c v [] other = ap (λ b. b || false) (ne-eqb c v other)
+among-other c v (w ∷ l) other = ap (λ b. eqb c w || b) (among-other c v l other)
+
+pub among-tail : (c v : ℕ) (l : List ℕ) → (c ≡ v → ⊥) → among c (v ∷ l) ≡ among c l
+unfolding among
+among-tail c v l other = ap (λ b. b || among c l) (ne-eqb c v other)
+
+pub among-last : (v : ℕ) (l : List ℕ) → among v (l ++ v ∷ []) ≡ true
+among-last v l = in-among v (l ++ v ∷ []) (in-back v l (v ∷ []) (inl refl))
+
+-- Two lists that both have a cell, or neither, answer alike.
+pub among-alike : (v : ℕ) (l m : List ℕ) → (In v l → In v m) → (In v m → In v l) → among v l ≡ among v m
+among-alike v l m to from =
+    ⊎-elim
+    (λ t. t ∙ sym (in-among v m (to (among-in v l t))))
+    (λ f. f ∙ sym (not-among v m (λ i. true-or-false (in-among v l (from i)) f)))
+    (tested (among v l))
 
 -- A cell that joins is at the end, once.
 pub joined-waiting : (v : ℕ) (ws : List ℕ) → among v ws ≡ true → joined v ws ≡ ws
@@ -197,6 +221,17 @@ length-passing test i (suc k) =
     let rest = length-passing test (suc i) k in
     let kept : length (passing test (suc i) k) ≤ suc k = omega arith in
     by-test (λ (l : List ℕ). length l ≤ suc k) (test i) (λ e. suc-le-suc rest) (λ e. kept)
+
+-- A list of cells below n, each once, that lacks one of them has fewer than n. Proof: with that one they are still cells below n, each
+-- once, and all of them stand in the range of n.
+pub room-for-new : (n v : ℕ) (ws : List ℕ) → NoDup ws → ((c : ℕ) → In c ws → c < n) → v < n → among v ws ≡ false → length ws < n
+room-for-new n v ws single inside below new =
+    let all = passing (λ c. true) 0 n in
+    let has : (c : ℕ) → c < n → In c all = λ c less. in-passing (λ c. true) 0 n c (omega arith) (omega arith) tt in
+    let known : (c : ℕ) → In c (v ∷ ws) → In c all = λ c i. ⊎-elim (λ p. has c (rw p below)) (λ j. has c (inside c j)) i in
+    let fewer = no-dup-no-longer (v ∷ ws) all (λ i. true-or-false (in-among v ws i) new, single) known in
+    let most = length-passing (λ c. true) 0 n in
+    omega arith
 
 -- A range cut in two, and with one number more.
 pub table-append : {L : Type 0} (f : ℕ → L) (i j k : ℕ) → table f i (j + k) ≡ table f i j ++ table f (i + j) k

@@ -1,5 +1,5 @@
 -- Counting takes: a run cut in two, one take more, and that a run which stops is determined. These hold of every net.
-use mathlib.Core.List.{List, [], _∷_, _++_}
+use mathlib.Core.List.{List, [], _∷_, _++_, append-nil}
 use mathlib.Core.Logic.{_⊎_, inl, inr, ⊎-elim}
 use mathlib.Core.Path.{_≡_, refl, sym, ap, _∙_}
 use Prim.Native.Nat.{ℕ, suc, _+_, _-_, _*_, _≤_}
@@ -100,6 +100,14 @@ module _ {L : Type 0} (net : Net L) where
   run-past j k s stops le =
       let sum : k ≡ j + (k - j) = omega arith in
       ap (λ n. run net n s) sum ∙ run-add j (k - j) s ∙ run-stopped net (k - j) (run net j s) stops
+
+  pub trace-past : (j k : ℕ) (s : State L) → run net j s .waiting ≡ [] → j ≤ k → trace net k s ≡ trace net j s
+  trace-past j k s stops le =
+      let sum : k ≡ j + (k - j) = omega arith in
+      ap (λ n. trace net n s) sum
+      ∙ trace-add j (k - j) s
+      ∙ ap (λ l. trace net j s ++ l) (trace-stopped net (k - j) (run net j s) stops)
+      ∙ append-nil (trace net j s)
 
   pub takes-settled : (j k : ℕ) (s : State L) → run net j s .waiting ≡ [] → takes net k s ≤ takes net j s
   takes-settled j k s stops =

@@ -19,12 +19,12 @@ use Rattle.rules.specs.declared.BarrierDiagonals.{BarrierDiagonals}
 use Rattle.rules.specs.Numbers.{infinity}
 use Rattle.rules.specs.Sizes.{Size, Grid, in-bounds}
 use Rattle.rules.specs.Cells.{straight-neighbours, diagonal-neighbours, moves}
-use Rattle.rules.specs.Distances.{target, target-data, from-targets, plain, free, blocked, with-obstacles, both-data, travel}
-use Rattle.rules.specs.Paths.{Path, alone, onward, Allowed-2, LeastOrCap, HoldsLeastSums, LeastSums-1, LeastSums-2}
+use Rattle.rules.specs.Distances.{target, target-data, from-targets, plain, free, blocked, with-obstacles, half-sum, both-data, travel}
+use Rattle.rules.specs.Paths.{Path, alone, onward, Allowed-2, AllowedBy, LeastOrCap, HoldsLeastSums, LeastSums-1, LeastSums-2, LeastSums-3}
 use Rattle.rules.proofs.Neighbours.{Permitted, straight-step, diagonal-step, moves-permitted, permitted-moves}
 use Rattle.rules.proofs.AddedCosts.{AddsCosts, laws-of-costs}
 use Rattle.rules.proofs.Inputs.{AcceptedTimes}
-use Rattle.rules.proofs.Nets.{plain-costs, obstacles-costs, half-sum, travel-costs}
+use Rattle.rules.proofs.Nets.{plain-costs, obstacles-costs, travel-costs}
 use Rattle.rules.proofs.Squares.{laws-end}
 
 not-not : (b : Bool) → T (not (not b)) → T b
@@ -117,17 +117,12 @@ module _ (net : Net Float) (Allowed : ℕ → ℕ → Float → Type 0) (size : 
 
 -- ---- searches 1 and 3: one test for all neighbours
 
--- A step to any neighbour that passes the test, with its cost.
-abbrev pub AllowedBy : Size → (ℕ → Bool) → (ℕ → ℕ → Float → Float) → ℕ → ℕ → Float → Type 0
-AllowedBy size test cost u v w =
-    T (test v) × ((In v (straight-neighbours size u) × (w ≡ cost u v straight)) ⊎ (In v (diagonal-neighbours size u) × (w ≡ cost u v diagonal)))
-
 module _ (size : Size) (test : ℕ → Bool) (cost : ℕ → ℕ → Float → Float) (u v : ℕ) where
-  permitted-by : (w : Float) → AllowedBy size test cost u v w → (s : Float) × Permitted size test test u v s × (w ≡ cost u v s)
+  pub permitted-by : (w : Float) → AllowedBy size test cost u v w → (s : Float) × Permitted size test test u v s × (w ≡ cost u v s)
   permitted-by w (t, inl (i, e)) = (straight, straight-step t i, e)
   permitted-by w (t, inr (i, e)) = (diagonal, diagonal-step t i, e)
 
-  allowed-by : (s : Float) → Permitted size test test u v s → AllowedBy size test cost u v (cost u v s)
+  pub allowed-by : (s : Float) → Permitted size test test u v s → AllowedBy size test cost u v (cost u v s)
   allowed-by s (straight-step t i) = (t, inl (i, refl))
   allowed-by s (diagonal-step t i) = (t, inr (i, refl))
 
@@ -152,11 +147,6 @@ unfolding plain
 least-sums-1 targets cap bounds held number =
     one-test-holds-least-sums (plain targets cap) (targets .size) (target-data targets) own-length (from-targets (target targets) cap) cap
     (plain-costs targets cap held number) (λ u. refl) (λ c. refl) (λ c. refl)
-
--- Search 3 allows a step to any neighbour with target and time data. Cells without are marked.
-abbrev pub LeastSums-3 : Grid ℕ → Grid Float → Float → Type 0
-LeastSums-3 targets times cap =
-    HoldsLeastSums (travel targets times cap) (λ c. not (both-data targets times c)) (AllowedBy (targets .size) (both-data targets times) (half-sum times)) cap
 
 pub least-sums-3 :
     (targets : Grid ℕ) (times : Grid Float) (cap : Float) → AcceptedTimes times → T (fits binary32 cap) → isNan cap ≡ false → LeastSums-3 targets times cap

@@ -5,5 +5,6 @@ pub mod Inputs
 pub mod Nets
 pub mod Squares
 pub mod LeastSums
+pub mod ClosestTargets
 pub mod Totals
 pub mod Accepted

@@ -16,7 +16,7 @@ use Rattle.fifo.proofs.Lists.{tested, holds}
 use Rattle.rules.specs.declared.BarrierDiagonals.{BarrierDiagonals}
 use Rattle.rules.specs.Numbers.{infinity, whole}
 use Rattle.rules.specs.Sizes.{Grid, count}
-use Rattle.rules.specs.Distances.{byte, float, target, target-data, has-data, from-targets, plus-step, plain, free, blocked, with-obstacles, plus-half-sum, both-data, travel}
+use Rattle.rules.specs.Distances.{byte, float, target, target-data, has-data, from-targets, plus-step, plain, free, blocked, with-obstacles, half-sum, plus-half-sum, both-data, travel}
 use Rattle.rules.specs.Values.{Carried, carrying, closest, plus-time, starts-by-time, entered-by-time, closest-by-time}
 use Rattle.rules.specs.Sums.{from-mask-cell, time-or-quarter, from-amount}
 use Rattle.rules.proofs.Inputs.{whole-is-distance, AcceptedTimes, time-non-negative, time-or-quarter-non-negative, AcceptedBudget, budget-and-one-non-negative}
@@ -95,10 +95,7 @@ obstacles-laws targets obstacles diagonals = laws-of-costs (obstacles-costs targ
 
 -- ---- 3
 
--- What a step from u to v adds: half its length times the sum of both times. It is a cost.
-abbrev pub half-sum : Grid Float → ℕ → ℕ → Float → Float
-half-sum times u v s = mul binary32 (div binary32 s two) (add binary32 (float times u) (float times v))
-
+-- What a step from u to v adds is a cost.
 half-sum-non-negative :
     {times : Grid Float} → AcceptedTimes times → (u v : ℕ) → T (has-data times u) → T (has-data times v) → (s : Float) → StepLength s
     → NonNegative (half-sum times u v s)

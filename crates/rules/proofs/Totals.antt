@@ -36,7 +36,7 @@ summed-at-most net each before [] = omega arith
 summed-at-most net each before (c ∷ cells) = omega (arith, each c, summed-at-most net each (before + takes-of (net c)) cells)
 
 -- So at most 2 ^ 20 starts take at most 2 ^ 60 together, and the total is not cut off.
-total-is-sum :
+pub total-is-sum :
     (net : ℕ → Net Float) → ((c : ℕ) → takes-of (net c) ≤ most-takes)
     → (cells : List ℕ) → length cells ≤ most-cells → total-takes (map (run-of net) cells) ≡ summed-takes 0 (map (run-of net) cells)
 unfolding total-takes

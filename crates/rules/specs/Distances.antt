@@ -105,9 +105,13 @@ outcome-2 targets obstacles spacing diagonals lent = unless (refusals-2 targets 
 
 -- ---- 3: travel_distances_up_to
 
--- d + (s / 2) * (a + b): half the step times the sum of both times.
+-- (s / 2) * (a + b): half the step times the sum of both times.
+abbrev pub half-sum : Grid Float → ℕ → ℕ → Float → Float
+half-sum times u v s = mul binary32 (div binary32 s two) (add binary32 (float times u) (float times v))
+
+-- d + (s / 2) * (a + b).
 abbrev pub plus-half-sum : Grid Float → ℕ → Float → ℕ → Float → Float
-plus-half-sum times u s v d = add binary32 d (mul binary32 (div binary32 s two) (add binary32 (float times u) (float times v)))
+plus-half-sum times u s v d = add binary32 d (half-sum times u v s)
 
 abbrev pub both-data : Grid ℕ → Grid Float → ℕ → Bool
 both-data targets times c = target-data targets c && has-data times c

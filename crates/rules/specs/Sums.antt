@@ -100,6 +100,9 @@ outcome-7 mask times values budget adjacent lent = unless (refusals-7 mask times
 abbrev pub time-or-quarter : Grid Float → ℕ → Float
 time-or-quarter times v = cond (has-data times v) (float times v) quarter-of-largest
 
+abbrev pub plus-time-or-quarter : Grid Float → Float → ℕ → Float → Float
+plus-time-or-quarter times s v d = add binary32 d (mul binary32 s (time-or-quarter times v))
+
 -- From a target, d + s * b. Distances start at the f32 sum budget + 1. A target with nodata time takes nothing.
 unfoldable pub from-amount : Grid Float → Float → ℕ → Net Float
 from-amount times budget t = record {
@@ -108,7 +111,7 @@ from-amount times budget t = record {
   first = λ c. cond (eqb c t) plus-zero (add binary32 budget one);
   start = λ c. eqb c t && has-data times c;
   enterable = λ c. true;
-  nbrs = moves (times .size) (λ v. true) (λ v. true) (λ s v d. add binary32 d (mul binary32 s (time-or-quarter times v)));
+  nbrs = moves (times .size) (λ v. true) (λ v. true) (plus-time-or-quarter times);
 }
 
 -- Per amount with data and nonzero, in row order.

@@ -1,36 +1,35 @@
 -- What a cell begins with, by the rule, is what the rule's net says. Assumes nothing.
 use mathlib.Core.Bool.{Bool, true, false, not, cond, _&&_}
 use mathlib.Core.List.{List}
-use mathlib.Core.Path.{_≡_, refl, sym, ap, _∙_}
+use mathlib.Core.Path.{_≡_, refl, sym, ap, _∙_, subst}
 use Prim.Native.Nat.{ℕ, suc, _+_, _<_}
 use native.Mathlib.Numerals.{add-one}
 use native.Mathlib.Omega.{arith}
 use borrow.Author.Tests.{eq-eqb, ne-eqb}
 use lib.Dec.{T, eqb, le→leb}
 use lib.IntN.{pos}
-use lib.Ieee.{Float, nan, binary32, inFloat, ofBits, ofInt, div}
+use lib.Ieee.{Float, nan, binary32, inFloat, ofInt, add}
 use lib.ListN.{length, getD}
 use mir.Syntax.{w32, w64}
 use mir.Val.{Fits}
+use Rattle.binary32.specs.Nodata.{nodata}
 use Rattle.binary32.specs.Numbers.{plus-zero, one}
 use Rattle.cells.proofs.Bounds.{bounded}
 use Rattle.rules.specs.declared.BarrierDiagonals.{BarrierDiagonals}
 use Rattle.rules.specs.declared.Size.{Size}
 use Rattle.rules.specs.Sizes.{in-bounds, count}
-use Rattle.rules.specs.Numbers.{infinity, target-byte, whole}
-use Rattle.rules.specs.Distances.{plain, with-obstacles}
-use Rattle.rules.specs.Values.{Carried, closest}
-use Rattle.spread.specs.declared.search.Rule.the-variants.{Plain, Obstacles, Closest}
+use Rattle.rules.specs.Numbers.{infinity, nodata-byte, target-byte, whole}
+use Rattle.rules.specs.Distances.{plain, with-obstacles, travel}
+use Rattle.rules.specs.Values.{Carried, closest, closest-by-time}
+use Rattle.rules.specs.Sums.{from-mask-cell, from-amount}
+use Rattle.spread.specs.declared.search.Rule.{Rule}
+use Rattle.spread.specs.declared.search.Rule.the-variants.{Plain, Obstacles, HalfSum, Closest, ByTime, FromMaskCell, FromAmount}
 use Rattle.spread.specs.declared.search.Search.{Search}
-use Rattle.spread.specs.declared.begin.First.{First}
-use Rattle.spread.specs.Nets.{net-of, carries}
-use Rattle.spread.specs.Begin.{FromTarget, FromPlainTarget, CellInputs, FirstOf}
+use Rattle.spread.specs.declared.first.First.{First}
+use Rattle.spread.specs.Nets.{net-of, carries, reads-targets, reads-times}
+use Rattle.spread.specs.First.{NeverEntered, FromStart, FromTarget, FromPlainTarget, FromTravelTarget, FromValuedTarget, FromCell, CellInputs, FirstOf}
 
 -- ---- numbers
-
-pub infinity-is : div binary32 one plus-zero ≡ infinity
-unfolding div ofBits
-infinity-is = refl
 
 -- One more than the number of cells is counted, and held exactly.
 module _ (size : Size) (bounds : T (in-bounds size)) {n : ℕ} (counted : n ≡ count size) where
@@ -59,52 +58,133 @@ is-target byte nonzero = ap (λ b. not b && not (eqb byte 255)) (sym (ne-eqb byt
 pub is-no-target : (byte : ℕ) → byte ≡ 0 → not (eqb byte 0) ≡ target-byte byte
 is-no-target byte zero = rw (eq-eqb byte 0 zero)
 
-module _ {byte : ℕ} {value cap : Float} {starts : Bool} (says : starts ≡ target-byte byte) where
-  pub target-starts : starts ≡ true → FromTarget byte value cap (record { distance = plus-zero; value = value; starts = starts })
-  target-starts yes-it-is = let told : target-byte byte ≡ true = sym says ∙ yes-it-is in record { distance-is = rw told; value-is = rw told; starts-is = says }
+-- A target is nonzero and not nodata, so that it has data.
+target-has-data : (zero none : Bool) → not zero && not none ≡ (not zero && not none) && not none
+target-has-data true none = refl
+target-has-data false true = refl
+target-has-data false false = refl
 
-  pub other-waits : starts ≡ false → FromTarget byte value cap (record { distance = cap; value = plus-zero; starts = starts })
-  other-waits is-not = let told : target-byte byte ≡ false = sym says ∙ is-not in record { distance-is = rw told; value-is = rw told; starts-is = says }
+and-false : (b : Bool) → b && false ≡ false
+and-false true = refl
+and-false false = refl
 
-module _ {byte : ℕ} {cap : Float} where
-  pub nodata-target : {distance value : Float} → distance ≡ nan → byte ≡ 255 → FromPlainTarget byte cap (record { distance = distance; value = value; starts = false })
-  nodata-target is-nan nodata = record { distance-is = rw (eq-eqb byte 255 nodata) is-nan; starts-is = rw nodata }
+and-true : (b : Bool) → b && true ≡ b
+and-true true = refl
+and-true false = refl
 
-  pub data-target : {value : Float} {first : First} → (byte ≡ 255 → ⊥) → FromTarget byte value cap first → FromPlainTarget byte cap first
+pair-of : {d x d′ x′ : Float} → d ≡ d′ → x ≡ x′ → _≡_ {A = Carried} (d, x) (d′, x′)
+pair-of {d} {x} {d′} {x′} p q = ap (λ y. (y, x)) p ∙ ap (λ y. (d′, y)) q
+
+pair-as : (b : Bool) (value cap : Float) {d x : Float} → d ≡ cond b plus-zero cap → x ≡ cond b value plus-zero → _≡_ {A = Carried} (d, x) (cond b (plus-zero, value) (cap, plus-zero))
+pair-as true value cap p q = pair-of p q
+pair-as false value cap p q = pair-of p q
+
+cond-pair : (b : Bool) {value value′ cap cap′ : Float} → value ≡ value′ → cap ≡ cap′ → _≡_ {A = Carried} (cond b (plus-zero, value) (cap, plus-zero)) (cond b (plus-zero, value′) (cap′, plus-zero))
+cond-pair true p q = pair-of refl p
+cond-pair false p q = pair-of q refl
+
+-- What a test says may stand for the test.
+pub start-as : {said starts : Bool} {value cap : Float} {first : First} → said ≡ starts → FromStart said value cap first → FromStart starts value cap first
+start-as {value = value} {cap} {first} same = subst (λ b. FromStart b value cap first) same
+
+module _ {byte : ℕ} {cap : Float} {first : First} where
+  pub nodata-target : byte ≡ 255 → NeverEntered first → FromPlainTarget byte cap first
+  nodata-target nodata never = record { distance-is = rw (eq-eqb byte 255 nodata) (never .distance-is); starts-is = rw nodata (never .starts-is) }
+
+  pub data-target : {value : Float} → (byte ≡ 255 → ⊥) → FromTarget byte value cap first → FromPlainTarget byte cap first
   data-target has-data from = record { distance-is = from .distance-is ∙ ap (λ b. cond (not b) (cond (target-byte byte) plus-zero cap) nan) (sym (ne-eqb byte 255 has-data)); starts-is = from .starts-is }
+
+  module _ {time : Float} {answer : Bool} (says : answer ≡ nodata time) where
+    pub nodata-time : answer ≡ true → NeverEntered first → FromTravelTarget byte time cap first
+    nodata-time none never =
+        let told : nodata time ≡ true = sym says ∙ none in
+        record { distance-is = rw told (rw (and-false (not (nodata-byte byte))) (never .distance-is)); starts-is = rw told (rw (and-false (not (nodata-byte byte))) (rw (and-false (target-byte byte)) (never .starts-is))) }
+
+    pub data-time : answer ≡ false → FromPlainTarget byte cap first → FromTravelTarget byte time cap first
+    data-time some from =
+        let told : nodata time ≡ false = sym says ∙ some in
+        record {
+          distance-is = rw told (rw (and-true (not (nodata-byte byte))) (from .distance-is));
+          starts-is = rw told (rw (and-true (not (nodata-byte byte))) (from .starts-is ∙ target-has-data (eqb byte 0) (nodata-byte byte)));
+        }
+
+  module _ {value : Float} {answer : Bool} (says : answer ≡ nodata value) where
+    pub nodata-value : answer ≡ true → NeverEntered first → FromValuedTarget byte value cap first
+    nodata-value none never =
+        let told : nodata value ≡ true = sym says ∙ none in
+        record { label-is = rw told (pair-of (never .distance-is) (never .value-is)); starts-is = rw told (never .starts-is) }
+
+    pub data-value : answer ≡ false → FromStart (not (eqb byte 0)) value cap first → FromValuedTarget byte value cap first
+    data-value some from =
+        let told : nodata value ≡ false = sym says ∙ some in
+        record { label-is = rw told (pair-as (not (eqb byte 0)) value cap (from .distance-is) (from .value-is)); starts-is = rw told (from .starts-is) }
+
+-- ---- one cell that starts
+
+module _ {cell origin : ℕ} {time cap : Float} where
+  pub from-origin : {value : Float} {answer : Bool} → answer ≡ nodata time → cell ≡ origin → FromCell cell origin time cap (record { distance = plus-zero; value = value; starts = not answer })
+  from-origin says here = record { distance-is = rw (eq-eqb cell origin here); starts-is = rw (eq-eqb cell origin here) (ap not says) }
+
+  pub from-elsewhere : {value : Float} {first : First} → (cell ≡ origin → ⊥) → FromStart false value cap first → FromCell cell origin time cap first
+  from-elsewhere other from = record { distance-is = rw (ne-eqb cell origin other) (from .distance-is); starts-is = rw (ne-eqb cell origin other) (from .starts-is) }
 
 -- ---- the rules
 
-module _ (search : Search) (targets : List ℕ) (values : List Float) (cell : ℕ) {first : First} where
-  pub plain-first : search .rule ≡ Plain → FromPlainTarget (getD targets cell 0) (search .limit) first → FirstOf search targets values cell first
+module _ (search : Search) (targets : List ℕ) (times values : List Float) (cell : ℕ) {first : First} where
+  pub plain-first : search .rule ≡ Plain → FromPlainTarget (getD targets cell 0) (search .limit) first → FirstOf search targets times values cell first
   unfolding net-of plain
   plain-first rule from = record { label = λ obstacles. rw rule (ap (λ d. (d, nan)) (from .distance-is)); starts = λ obstacles. rw rule (from .starts-is) }
 
   pub obstacles-first :
       {diagonals : BarrierDiagonals} {value cap : Float} → search .rule ≡ Obstacles diagonals → cap ≡ infinity → FromTarget (getD targets cell 0) value cap first
-      → FirstOf search targets values cell first
+      → FirstOf search targets times values cell first
   unfolding net-of with-obstacles
   obstacles-first rule capped from = record {
     label = λ obstacles. rw rule (ap (λ d. (d, nan)) (from .distance-is ∙ ap (cond (target-byte (getD targets cell 0)) plus-zero) capped));
     starts = λ obstacles. rw rule (from .starts-is);
   }
 
+  pub half-sum-first :
+      search .rule ≡ HalfSum → FromTravelTarget (getD targets cell 0) (getD times cell nan) (search .limit) first → FirstOf search targets times values cell first
+  unfolding net-of travel
+  half-sum-first rule from = record { label = λ obstacles. rw rule (ap (λ d. (d, nan)) (from .distance-is)); starts = λ obstacles. rw rule (from .starts-is) }
+
   pub closest-first :
       {value cap : Float} → search .rule ≡ Closest → value ≡ getD values cell nan → cap ≡ whole (suc (count (search .size)))
-      → FromTarget (getD targets cell 0) value cap first → FirstOf search targets values cell first
+      → FromTarget (getD targets cell 0) value cap first → FirstOf search targets times values cell first
   unfolding net-of closest
   closest-first {value} {cap} rule valued capped from = record {
-    label = λ obstacles. rw rule (both (target-byte (getD targets cell 0)) (from .distance-is) (from .value-is));
+    label = λ obstacles. rw rule (pair-as (target-byte (getD targets cell 0)) value cap (from .distance-is) (from .value-is) ∙ cond-pair (target-byte (getD targets cell 0)) valued capped);
     starts = λ obstacles. rw rule (from .starts-is);
   }
-    where
-      both :
-          (b : Bool) → first .distance ≡ cond b plus-zero cap → first .value ≡ cond b value plus-zero
-          → _≡_ {A = Carried} (first .distance, first .value) (cond b (plus-zero, getD values cell nan) (whole (suc (count (search .size))), plus-zero))
-      both true d x = ap (λ y. (y, first .value)) d ∙ ap (λ y. (plus-zero, y)) (x ∙ valued)
-      both false d x = ap (λ y. (y, first .value)) (d ∙ capped) ∙ ap (λ y. (whole (suc (count (search .size))), y)) x
 
--- The value of a cell can be read where the rule carries one.
-pub value-read :
-    {search : Search} {targets : List ℕ} {values : List Float} {cell : ℕ} → CellInputs search targets values cell → search .rule ≡ Closest → cell < length values
-value-read given rule = rw (given .inputs .values-length (ap carries rule)) (given .inside)
+  pub by-time-first :
+      search .rule ≡ ByTime → FromValuedTarget (getD targets cell 0) (getD values cell nan) (search .limit) first → FirstOf search targets times values cell first
+  unfolding net-of closest-by-time
+  by-time-first rule from = record { label = λ obstacles. rw rule (from .label-is); starts = λ obstacles. rw rule (from .starts-is) }
+
+  pub mask-cell-first :
+      {origin : ℕ} {cap : Float} → search .rule ≡ FromMaskCell origin → cap ≡ infinity → FromCell cell origin (getD times cell nan) cap first
+      → FirstOf search targets times values cell first
+  unfolding net-of from-mask-cell
+  mask-cell-first {origin} rule capped from = record {
+    label = λ obstacles. rw rule (ap (λ d. (d, nan)) (from .distance-is ∙ ap (cond (eqb cell origin) plus-zero) capped));
+    starts = λ obstacles. rw rule (from .starts-is);
+  }
+
+  pub amount-first :
+      {origin : ℕ} → search .rule ≡ FromAmount origin → FromCell cell origin (getD times cell nan) (add binary32 (search .limit) one) first
+      → FirstOf search targets times values cell first
+  unfolding net-of from-amount
+  amount-first rule from = record { label = λ obstacles. rw rule (ap (λ d. (d, nan)) (from .distance-is)); starts = λ obstacles. rw rule (from .starts-is) }
+
+-- The cell of a grid that the rule reads can be read.
+module _ {search : Search} {targets : List ℕ} {times values : List Float} {cell : ℕ} (given : CellInputs search targets times values cell) {rule : Rule} (is-rule : search .rule ≡ rule) where
+  pub target-read : reads-targets rule ≡ true → cell < length targets
+  target-read reads = rw (given .inputs .targets-length (ap reads-targets is-rule ∙ reads)) (given .inside)
+
+  pub time-read : reads-times rule ≡ true → cell < length times
+  time-read reads = rw (given .inputs .times-length (ap reads-times is-rule ∙ reads)) (given .inside)
+
+  pub value-read : carries rule ≡ true → cell < length values
+  value-read reads = rw (given .inputs .values-length (ap carries is-rule ∙ reads)) (given .inside)

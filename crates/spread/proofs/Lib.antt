@@ -9,6 +9,8 @@ pub mod Scans
 pub mod Taking
 pub mod Firsts
 pub mod Beginning
+pub mod Finishing
 pub mod Running
+pub mod Tracing
 pub mod Agrees
 pub mod Results

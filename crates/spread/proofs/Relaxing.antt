@@ -9,10 +9,11 @@ use Rattle.cells.specs.declared.ring.Ring.{Ring}
 use Rattle.fifo.specs.Machine.{Net, State, joined, label, store}
 use Rattle.fifo.proofs.Induction.{labels-store, waiting-store, relax-stores, relax-leaves}
 use Rattle.rules.specs.Values.{Carried, nearer}
+use Rattle.spread.specs.declared.search.Rule.{Rule}
 use Rattle.spread.specs.declared.search.Search.{Search}
 use Rattle.spread.specs.declared.relax.Left.{Left}
-use Rattle.spread.specs.Nets.{carries, labels-of}
-use Rattle.spread.specs.Steps.{formula, entering, labelled}
+use Rattle.spread.specs.Nets.{sized, carries, reads-times, labels-of}
+use Rattle.spread.specs.Steps.{formula, entering, labelled, Timed}
 use Rattle.spread.specs.Waiting.{Waiting, Joining, Joined}
 use Rattle.spread.specs.Buffers.{Buffers, buffers, Holds, Does, storing, relaxing, carried-on}
 use Rattle.spread.specs.Loop.{left-label, Trying}
@@ -55,15 +56,15 @@ module _ {search : Search} {v : ℕ} {distances carried : List Float} {marks que
     kept = λ no-value. carries-on ∙ not-carried-on (carries (search .rule)) v x carried no-value;
   }
 
-  module _ (left : Left) (step new : Float) (formed : new ≡ formula (search .rule) step v (left .distance)) where
+  module _ (left : Left) (step new : Float) (times : List Float) (formed : new ≡ formula (search .rule) (sized search times) (left .cell) step v (left .distance)) where
     -- The machine's test is the test of the two distances: the net orders labels by these alone, and the buffers hold the cell's label.
     tested-as :
         (net : Net Carried) → net .below ≡ nearer → (t : State Carried) → Holds search t (buffers distances carried marks queue ring)
         → {answer : Bool} → lt new (getD distances v nan) ≡ answer
-        → net .below (entering (search .rule) step v (left-label search left)) (label net t v) ≡ answer
+        → net .below (entering search times (left .cell) step v (left-label search left)) (label net t v) ≡ answer
     tested-as net nearest t held e =
-        ap (λ below. below (entering (search .rule) step v (left-label search left)) (label net t v)) nearest
-        ∙ ap (nearer (entering (search .rule) step v (left-label search left))) (label-held net held v (tries .inside))
+        ap (λ below. below (entering search times (left .cell) step v (left-label search left)) (label net t v)) nearest
+        ∙ ap (nearer (entering search times (left .cell) step v (left-label search left))) (label-held net held v (tries .inside))
         ∙ ap (λ d. lt d (getD distances v nan)) (sym formed)
         ∙ e
 
@@ -71,13 +72,13 @@ module _ {search : Search} {v : ℕ} {distances carried : List Float} {marks que
     pub relax-does :
         {after : Buffers} → lt new (getD distances v nan) ≡ true
         → Does search (storing v (labelled (search .rule) new (left .value))) (buffers distances carried marks queue ring) after
-        → Does search (relaxing (left-label search left) v (entering (search .rule) step v)) (buffers distances carried marks queue ring) after
+        → Does search (relaxing (left-label search left) v (entering search times (left .cell) step v)) (buffers distances carried marks queue ring) after
     relax-does {after} lower stores = record {
       good = stores .good;
       holds = λ net nearest t held.
           subst (λ s. Holds search s after)
           (ap (λ d. store net v (d, left-label search left .1) t) formed
-          ∙ sym (relax-stores net (left-label search left) v (entering (search .rule) step v) t (tested-as net nearest t held lower)))
+          ∙ sym (relax-stores net (left-label search left) v (entering search times (left .cell) step v) t (tested-as net nearest t held lower)))
           (stores .holds net nearest t held);
       kept = stores .kept;
     }
@@ -85,12 +86,20 @@ module _ {search : Search} {v : ℕ} {distances carried : List Float} {marks que
     -- Any other changes nothing, neither here nor there.
     pub relax-does-nothing :
         lt new (getD distances v nan) ≡ false
-        → Does search (relaxing (left-label search left) v (entering (search .rule) step v)) (buffers distances carried marks queue ring) (buffers distances carried marks queue ring)
+        → Does search (relaxing (left-label search left) v (entering search times (left .cell) step v)) (buffers distances carried marks queue ring) (buffers distances carried marks queue ring)
     relax-does-nothing above = record {
       good = tries .good;
       holds = λ net nearest t held.
           subst (λ s. Holds search s (buffers distances carried marks queue ring))
-          (sym (relax-leaves net (left-label search left) v (entering (search .rule) step v) t (tested-as net nearest t held above)))
+          (sym (relax-leaves net (left-label search left) v (entering search times (left .cell) step v) t (tested-as net nearest t held above)))
           held;
       kept = λ no-value. refl;
     }
+
+-- The time of a cell can be read where the rule reads it.
+module _ {search : Search} {times : List Float} {u v : ℕ} (timed : Timed search times u v) {rule : Rule} (is-rule : search .rule ≡ rule) (reads : reads-times rule ≡ true) where
+  pub left-time-read : u < length times
+  left-time-read = rw (timed .lent (ap reads-times is-rule ∙ reads)) (timed .first)
+
+  pub entered-time-read : v < length times
+  entered-time-read = rw (timed .lent (ap reads-times is-rule ∙ reads)) (timed .second)

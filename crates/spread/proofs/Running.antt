@@ -12,21 +12,25 @@ use mir.Syntax.{w64}
 use mir.Val.{Fits}
 use Rattle.cells.specs.Ring.{contents, none, SaysEmpty}
 use Rattle.cells.proofs.Bounds.{bounded}
-use Rattle.fifo.specs.Machine.{Net, initial, run, takes, finish, takes-of}
+use Rattle.fifo.specs.Machine.{Net, initial, run, takes}
 use Rattle.fifo.proofs.Induction.{run-zero, takes-zero}
-use Rattle.fifo.proofs.Runs.{run-last, takes-last, run-past, takes-past}
+use Rattle.fifo.proofs.Runs.{run-last, takes-last}
 use Rattle.rules.specs.declared.Size.{Size}
 use Rattle.rules.specs.Sizes.{in-bounds, count}
 use Rattle.rules.specs.Values.{Carried}
 use Rattle.spread.specs.declared.search.Search.{Search}
+use Rattle.spread.specs.declared.take.Took.{Took}
 use Rattle.spread.specs.Nets.{carries}
 use Rattle.spread.specs.Buffers.{Buffers, Good, Holds}
-use Rattle.spread.specs.Begin.{net-on, BeganTo}
+use Rattle.spread.specs.Steps.{Terrain, terrain}
+use Rattle.spread.specs.First.{net-on}
+use Rattle.spread.specs.Begin.{BeganTo}
 use Rattle.spread.specs.Loop.{Setting, Taking, TookCell, Ready, Running, Ran}
 use Rattle.spread.specs.Promise.{grids, Spreads, Spread}
 use Rattle.spread.proofs.Lengths.{carried-length-kept}
 use Rattle.spread.proofs.Rules.{cells-are, follows}
 use Rattle.spread.proofs.Beginning.{begun-good, begun-initial}
+use Rattle.spread.proofs.Finishing.{finishes}
 
 some-or-none : (l : List ℕ) → none l ≡ false → (u : ℕ) × (ws : List ℕ) × (l ≡ u ∷ ws)
 some-or-none [] e = absurd (subst T e tt)
@@ -42,42 +46,42 @@ pub record Taken (search : Search) (net : Net Carried) (b : Buffers) (r : ℕ) :
   pub all : takes net r (initial net) ≡ r
 
 -- What holds before each turn of the loop.
-pub record Turn (search : Search) (obstacles : List ℕ) (before b : Buffers) (r : ℕ) : Type 0 where
+pub record Turn (search : Search) (ground : Terrain) (before b : Buffers) (r : ℕ) : Type 0 where
   pub good : Good search b
-  pub taken : (net : Net Carried) → Ready search obstacles net before → Taken search net b r
+  pub taken : (net : Net Carried) → Ready search ground net before → Taken search net b r
   pub kept : carries (search .rule) ≡ false → b .carried ≡ before .carried
 
-module _ {search : Search} {obstacles : List ℕ} {before : Buffers} where
-  pub no-turn : Good search before → Turn search obstacles before before 0
+module _ {search : Search} {ground : Terrain} {before : Buffers} where
+  pub no-turn : Good search before → Turn search ground before before 0
   no-turn good = record {
     good = good;
     taken = λ net ready. record { holds = subst (λ s. Holds search s before) (sym (run-zero net (initial net))) (ready .holds); all = takes-zero net (initial net) };
     kept = λ no-value. refl;
   }
 
-  module _ {b : Buffers} {r : ℕ} (turn : Turn search obstacles before b r) {answer : Bool} (empty : SaysEmpty (b .ring) answer) where
+  module _ {b : Buffers} {r : ℕ} (turn : Turn search ground before b r) {answer : Bool} (empty : SaysEmpty (b .ring) answer) where
     told : answer ≡ none (contents (b .queue) (b .ring))
     told = empty .says (b .queue) (turn .good .waits .in-slots)
 
     -- The loop's test is that the ring is not empty.
     module _ (something : not answer ≡ true) where
-      first : (u : ℕ) × (ws : List ℕ) × (contents (b .queue) (b .ring) ≡ u ∷ ws)
+      pub first : (u : ℕ) × (ws : List ℕ) × (contents (b .queue) (b .ring) ≡ u ∷ ws)
       first = some-or-none (contents (b .queue) (b .ring)) (sym told ∙ not-true answer something)
 
-      pub turn-takes : Setting search obstacles → Taking search obstacles b
+      pub turn-takes : Setting search ground → Taking search ground b
       turn-takes setting = record { good = turn .good; setting = setting; some = rw (first .2) (omega arith) }
 
       -- The machine has something to take too, so that a take more is made.
-      more : (net : Net Carried) → Ready search obstacles net before → takes net (r + 1) (initial net) ≡ r + 1
+      more : (net : Net Carried) → Ready search ground net before → takes net (r + 1) (initial net) ≡ r + 1
       more net ready = takes-last net r (initial net) (first .0) (first .1) (turn .taken net ready .holds .waiting ∙ first .2)
 
       -- So the bound on the takes is not met yet, and the loop's measure is above 0.
-      pub below-square : (net : Net Carried) × Ready search obstacles net before → r + 1 ≤ count (search .size) * count (search .size)
+      pub below-square : (net : Net Carried) × Ready search ground net before → r + 1 ≤ count (search .size) * count (search .size)
       below-square (net, ready) = let made = more net ready in let bound = ready .within (r + 1) in omega arith
 
       -- The take is the machine's next one. Proof: the buffers hold the state after r takes, in which the same cells wait, so that the code's
       -- take leads to the state that the machine's take leads to, and that is the state after r + 1 takes.
-      pub next-turn : {after : Buffers} → TookCell search obstacles b after → Turn search obstacles before after (r + 1)
+      pub next-turn : {after : Buffers} {taken : Took} → TookCell search ground b after taken → Turn search ground before after (r + 1)
       next-turn {after} took = record {
         good = took .good;
         taken = λ net ready.
@@ -91,7 +95,7 @@ module _ {search : Search} {obstacles : List ℕ} {before : Buffers} where
         kept = λ no-value. took .kept no-value ∙ turn .kept no-value;
       }
 
-    pub ran : not answer ≡ false → Ran search obstacles before (b .distances) (b .carried) (b .marks) (b .queue) r
+    pub ran : not answer ≡ false → Ran search ground before (b .distances) (b .carried) (b .marks) (b .queue) r
     ran nothing = record {
       lengths = record {
         distances-length = turn .good .distances-length;
@@ -116,33 +120,26 @@ counted-fits size bounds r below =
 -- ---- from the beginning to the end
 
 module _
-    {search : Search} {targets obstacles : List ℕ} {values distances carried : List Float} {marks queue : List ℕ}
-    (spreads : Spreads search (grids targets obstacles values) distances carried marks queue)
-    {begun : Buffers} (began : BeganTo search targets values (count (search .size)) carried begun)
+    {search : Search} {targets obstacles : List ℕ} {times values distances carried : List Float} {marks queue : List ℕ}
+    (spreads : Spreads search (grids targets obstacles times values) distances carried marks queue)
+    {begun : Buffers} (began : BeganTo search targets times values (count (search .size)) carried begun)
   where
-    ready : Ready search obstacles (net-on search targets obstacles values) begun
-    ready = record { follows = follows targets obstacles values search; holds = begun-initial (began .begun) obstacles; within = spreads .within }
+    pub begun-ready : Ready search (terrain obstacles times) (net-on search targets obstacles times values) begun
+    begun-ready = record { follows = follows targets obstacles times values search; holds = begun-initial (began .begun) obstacles; within = spreads .within }
 
-    pub begun-runs : Running search obstacles begun
-    begun-runs = record { good = begun-good (began .begun); setting = spreads .setting; ready = (net-on search targets obstacles values, ready) }
+    pub begun-runs : Running search (terrain obstacles times) begun
+    begun-runs = record { good = begun-good (began .begun); setting = spreads .setting; ready = (net-on search targets obstacles times values, begun-ready) }
 
-    -- A run that stops is where the search ends. Proof: each of its takes was made, so they are within the square; the search is the run of as
-    -- many takes as the square, and past a stop nothing changes.
     pub spread-ends :
-        {distances′ carried′ : List Float} {marks′ queue′ : List ℕ} {r : ℕ} → Ran search obstacles begun distances′ carried′ marks′ queue′ r
-        → Spread search (grids targets obstacles values) carried distances′ carried′ marks′ queue′ r
-    unfolding finish takes-of
+        {distances′ carried′ : List Float} {marks′ queue′ : List ℕ} {r : ℕ} → Ran search (terrain obstacles times) begun distances′ carried′ marks′ queue′ r
+        → Spread search (grids targets obstacles times values) carried distances′ carried′ marks′ queue′ r
     spread-ends {distances′} {carried′} {marks′} {queue′} {r} runs =
-        let net = net-on search targets obstacles values in
+        let net = net-on search targets obstacles times values in
         let kept : carries (search .rule) ≡ false → carried′ ≡ carried = λ no-value. runs .kept no-value ∙ began .kept no-value in
-        let ended = runs .ended net ready in
-        let all = ended .all in
-        let bound : takes net r (initial net) ≤ net .cells * net .cells
-        = subst (λ n. takes net r (initial net) ≤ n * n) (sym (cells-are targets obstacles values search)) (spreads .within r) in
-        let within : r ≤ net .cells * net .cells = omega arith in
+        let finished = finishes (cells-are targets obstacles times values search) (spreads .within) (runs .ended net begun-ready) in
         record {
-          labels = sym (ended .labels) ∙ ap (λ s. s .labels) (sym (run-past net r (net .cells * net .cells) (initial net) (ended .stopped) within));
-          counted = sym (ended .all) ∙ sym (takes-past net r (net .cells * net .cells) (initial net) (ended .stopped) within);
+          labels = finished .labels;
+          counted = finished .counted;
           lengths = runs .lengths;
           same-length = carried-length-kept (search .rule) (spreads .lengths .carried-length) (runs .lengths .carried-length) kept;
           kept = kept;

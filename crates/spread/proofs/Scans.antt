@@ -15,9 +15,9 @@ use Rattle.rules.specs.Values.{Carried}
 use Rattle.spread.specs.declared.search.Rule.{Rule}
 use Rattle.spread.specs.declared.search.Search.{Search}
 use Rattle.spread.specs.declared.relax.Left.{Left}
-use Rattle.spread.specs.Steps.{on, entering, avoids, may-straight, may-diagonal, straight-steps, diagonal-steps, MayAsk}
+use Rattle.spread.specs.Steps.{Terrain, on, entering, avoids, may-straight, may-diagonal, straight-steps, diagonal-steps, MayAsk}
 use Rattle.spread.specs.Buffers.{Buffers, Good, Holds, Does, relaxing, scanning}
-use Rattle.spread.specs.Loop.{left-label, Entering, Scanning}
+use Rattle.spread.specs.Loop.{left-label, Relaxes, Entering, Scanning}
 
 -- ---- operations one after the other
 
@@ -63,37 +63,37 @@ keep-append test (v ∷ l) m = ap (λ r. cond (test v) (v ∷ r) r) (keep-append
     outside false l = refl
 
 pub straight-append :
-    (search : Search) (obstacles l m : List ℕ)
-    → straight-steps search obstacles (l ++ m) ≡ straight-steps search obstacles l ++ straight-steps search obstacles m
+    (search : Search) (ground : Terrain) (u : ℕ) (l m : List ℕ)
+    → straight-steps search ground u (l ++ m) ≡ straight-steps search ground u l ++ straight-steps search ground u m
 unfolding straight-steps
-straight-append search obstacles l m =
-    let test = may-straight (search .rule) (on (search .size) obstacles) in
-    ap (map (over straight (entering (search .rule)))) (keep-append test l m) ∙ map-append _ (keep test l) (keep test m)
+straight-append search ground u l m =
+    let test = may-straight (search .rule) (on (search .size) (ground .obstacles)) in
+    ap (map (over straight (entering search (ground .times) u))) (keep-append test l m) ∙ map-append _ (keep test l) (keep test m)
 
 pub diagonal-append :
-    (search : Search) (obstacles : List ℕ) (u : ℕ) (l m : List ℕ)
-    → diagonal-steps search obstacles u (l ++ m) ≡ diagonal-steps search obstacles u l ++ diagonal-steps search obstacles u m
+    (search : Search) (ground : Terrain) (u : ℕ) (l m : List ℕ)
+    → diagonal-steps search ground u (l ++ m) ≡ diagonal-steps search ground u l ++ diagonal-steps search ground u m
 unfolding diagonal-steps
-diagonal-append search obstacles u l m =
-    let test = may-diagonal (search .rule) (on (search .size) obstacles) u in
-    ap (map (over diagonal (entering (search .rule)))) (keep-append test l m) ∙ map-append _ (keep test l) (keep test m)
+diagonal-append search ground u l m =
+    let test = may-diagonal (search .rule) (on (search .size) (ground .obstacles)) u in
+    ap (map (over diagonal (entering search (ground .times) u))) (keep-append test l m) ∙ map-append _ (keep test l) (keep test m)
 
 -- ---- one cell
 
-module _ (search : Search) (obstacles : List ℕ) (v : ℕ) where
+module _ (search : Search) (ground : Terrain) (u v : ℕ) where
   straight-one :
-      (may : Bool) → may-straight (search .rule) (on (search .size) obstacles) v ≡ may
-      → straight-steps search obstacles (v ∷ []) ≡ cond may ((v, entering (search .rule) straight v) ∷ []) []
+      (may : Bool) → may-straight (search .rule) (on (search .size) (ground .obstacles)) v ≡ may
+      → straight-steps search ground u (v ∷ []) ≡ cond may ((v, entering search (ground .times) u straight v) ∷ []) []
   unfolding straight-steps keep
-  straight-one true may = ap (λ b. map (over straight (entering (search .rule))) (cond b (v ∷ []) [])) may
-  straight-one false may = ap (λ b. map (over straight (entering (search .rule))) (cond b (v ∷ []) [])) may
+  straight-one true may = ap (λ b. map (over straight (entering search (ground .times) u)) (cond b (v ∷ []) [])) may
+  straight-one false may = ap (λ b. map (over straight (entering search (ground .times) u)) (cond b (v ∷ []) [])) may
 
   diagonal-one :
-      (u : ℕ) (may : Bool) → may-diagonal (search .rule) (on (search .size) obstacles) u v ≡ may
-      → diagonal-steps search obstacles u (v ∷ []) ≡ cond may ((v, entering (search .rule) diagonal v) ∷ []) []
+      (may : Bool) → may-diagonal (search .rule) (on (search .size) (ground .obstacles)) u v ≡ may
+      → diagonal-steps search ground u (v ∷ []) ≡ cond may ((v, entering search (ground .times) u diagonal v) ∷ []) []
   unfolding diagonal-steps keep
-  diagonal-one u true may = ap (λ b. map (over diagonal (entering (search .rule))) (cond b (v ∷ []) [])) may
-  diagonal-one u false may = ap (λ b. map (over diagonal (entering (search .rule))) (cond b (v ∷ []) [])) may
+  diagonal-one true may = ap (λ b. map (over diagonal (entering search (ground .times) u)) (cond b (v ∷ []) [])) may
+  diagonal-one false may = ap (λ b. map (over diagonal (entering search (ground .times) u)) (cond b (v ∷ []) [])) may
 
 -- A step that is permitted is tried, and one that is not leads nowhere.
 module _ (search : Search) (left : Left) {steps : List (ℕ × (Carried → Carried))} where
@@ -107,24 +107,24 @@ module _ (search : Search) (left : Left) {steps : List (ℕ × (Carried → Carr
   unfolding scan
   none-tried none good = does-nothing good (λ net t. ap (λ l. scan net (left-label search left) l t) (sym none))
 
-module _ (search : Search) (obstacles : List ℕ) (left : Left) (v : ℕ) {b : Buffers} {may : Bool} where
-  module _ (says : may ≡ may-straight (search .rule) (on (search .size) obstacles) v) where
+module _ (search : Search) (ground : Terrain) (left : Left) (v : ℕ) {b : Buffers} {may : Bool} where
+  module _ (says : may ≡ may-straight (search .rule) (on (search .size) (ground .obstacles)) v) where
     pub straight-tried :
-        {after : Buffers} → may ≡ true → Does search (relaxing (left-label search left) v (entering (search .rule) straight v)) b after
-        → Does search (scanning (left-label search left) (straight-steps search obstacles (v ∷ []))) b after
-    straight-tried permitted = one-tried search left (straight-one search obstacles v true (sym says ∙ permitted))
+        {after : Buffers} → may ≡ true → Does search (relaxing (left-label search left) v (entering search (ground .times) (left .cell) straight v)) b after
+        → Does search (scanning (left-label search left) (straight-steps search ground (left .cell) (v ∷ []))) b after
+    straight-tried permitted = one-tried search left (straight-one search ground (left .cell) v true (sym says ∙ permitted))
 
-    pub straight-refused : may ≡ false → Good search b → Does search (scanning (left-label search left) (straight-steps search obstacles (v ∷ []))) b b
-    straight-refused refused = none-tried search left (straight-one search obstacles v false (sym says ∙ refused))
+    pub straight-refused : may ≡ false → Good search b → Does search (scanning (left-label search left) (straight-steps search ground (left .cell) (v ∷ []))) b b
+    straight-refused refused = none-tried search left (straight-one search ground (left .cell) v false (sym says ∙ refused))
 
-  module _ (says : may ≡ may-diagonal (search .rule) (on (search .size) obstacles) (left .cell) v) where
+  module _ (says : may ≡ may-diagonal (search .rule) (on (search .size) (ground .obstacles)) (left .cell) v) where
     pub diagonal-tried :
-        {after : Buffers} → may ≡ true → Does search (relaxing (left-label search left) v (entering (search .rule) diagonal v)) b after
-        → Does search (scanning (left-label search left) (diagonal-steps search obstacles (left .cell) (v ∷ []))) b after
-    diagonal-tried permitted = one-tried search left (diagonal-one search obstacles v (left .cell) true (sym says ∙ permitted))
+        {after : Buffers} → may ≡ true → Does search (relaxing (left-label search left) v (entering search (ground .times) (left .cell) diagonal v)) b after
+        → Does search (scanning (left-label search left) (diagonal-steps search ground (left .cell) (v ∷ []))) b after
+    diagonal-tried permitted = one-tried search left (diagonal-one search ground (left .cell) v true (sym says ∙ permitted))
 
-    pub diagonal-refused : may ≡ false → Good search b → Does search (scanning (left-label search left) (diagonal-steps search obstacles (left .cell) (v ∷ []))) b b
-    diagonal-refused refused = none-tried search left (diagonal-one search obstacles v (left .cell) false (sym says ∙ refused))
+    pub diagonal-refused : may ≡ false → Good search b → Does search (scanning (left-label search left) (diagonal-steps search ground (left .cell) (v ∷ []))) b b
+    diagonal-refused refused = none-tried search left (diagonal-one search ground (left .cell) v false (sym says ∙ refused))
 
 -- ---- one cell more
 
@@ -160,48 +160,54 @@ module _
         sym (scan-append net (left-label search left) (steps (part cells start k)) (steps (getD cells k 0 ∷ [])) t)
         ∙ ap (λ l. scan net (left-label search left) l t) (sym (ap steps (part-last cells start k from below) ∙ append (part cells start k) (getD cells k 0 ∷ []))))
 
-module _ (search : Search) (obstacles : List ℕ) (left : Left) (cells : List ℕ) where
-  pub straight-begun : {b : Buffers} → Good search b → Does search (scanning (left-label search left) (straight-steps search obstacles (part cells 0 0))) b b
+module _ (search : Search) (ground : Terrain) (left : Left) (cells : List ℕ) where
+  pub straight-begun : {b : Buffers} → Good search b → Does search (scanning (left-label search left) (straight-steps search ground (left .cell) (part cells 0 0))) b b
   unfolding straight-steps keep
-  straight-begun = none-scanned search left (straight-steps search obstacles) (straight-append search obstacles) cells 0 refl
+  straight-begun = none-scanned search left (straight-steps search ground (left .cell)) (straight-append search ground (left .cell)) cells 0 refl
 
   pub straight-on :
       {before between after : Buffers} (k : ℕ) → k < length cells
-      → Does search (scanning (left-label search left) (straight-steps search obstacles (part cells 0 k))) before between
-      → Does search (scanning (left-label search left) (straight-steps search obstacles (getD cells k 0 ∷ []))) between after
-      → Does search (scanning (left-label search left) (straight-steps search obstacles (part cells 0 (k + 1)))) before after
-  straight-on k = one-scanned search left (straight-steps search obstacles) (straight-append search obstacles) cells 0 k (omega arith)
+      → Does search (scanning (left-label search left) (straight-steps search ground (left .cell) (part cells 0 k))) before between
+      → Does search (scanning (left-label search left) (straight-steps search ground (left .cell) (getD cells k 0 ∷ []))) between after
+      → Does search (scanning (left-label search left) (straight-steps search ground (left .cell) (part cells 0 (k + 1)))) before after
+  straight-on k = one-scanned search left (straight-steps search ground (left .cell)) (straight-append search ground (left .cell)) cells 0 k (omega arith)
 
   pub straight-done :
       {before after : Buffers} (k : ℕ)
-      → Does search (scanning (left-label search left) (straight-steps search obstacles (part cells 0 k))) before after
-      → Does search (scanning (left-label search left) (straight-steps search obstacles (take k cells))) before after
+      → Does search (scanning (left-label search left) (straight-steps search ground (left .cell) (part cells 0 k))) before after
+      → Does search (scanning (left-label search left) (straight-steps search ground (left .cell) (take k cells))) before after
   straight-done k = let all : k - 0 ≡ k = omega arith in
-      does-as (λ net t. ap (λ n. scan net (left-label search left) (straight-steps search obstacles (take n cells)) t) all)
+      does-as (λ net t. ap (λ n. scan net (left-label search left) (straight-steps search ground (left .cell) (take n cells)) t) all)
 
   pub diagonal-begun :
       {b : Buffers} (start : ℕ) → Good search b
-      → Does search (scanning (left-label search left) (diagonal-steps search obstacles (left .cell) (part cells start start))) b b
+      → Does search (scanning (left-label search left) (diagonal-steps search ground (left .cell) (part cells start start))) b b
   unfolding diagonal-steps keep
   diagonal-begun start =
-      none-scanned search left (diagonal-steps search obstacles (left .cell)) (diagonal-append search obstacles (left .cell)) cells start refl
+      none-scanned search left (diagonal-steps search ground (left .cell)) (diagonal-append search ground (left .cell)) cells start refl
 
   pub diagonal-on :
       {before between after : Buffers} (start k : ℕ) → start ≤ k → k < length cells
-      → Does search (scanning (left-label search left) (diagonal-steps search obstacles (left .cell) (part cells start k))) before between
-      → Does search (scanning (left-label search left) (diagonal-steps search obstacles (left .cell) (getD cells k 0 ∷ []))) between after
-      → Does search (scanning (left-label search left) (diagonal-steps search obstacles (left .cell) (part cells start (k + 1)))) before after
-  diagonal-on start = one-scanned search left (diagonal-steps search obstacles (left .cell)) (diagonal-append search obstacles (left .cell)) cells start
+      → Does search (scanning (left-label search left) (diagonal-steps search ground (left .cell) (part cells start k))) before between
+      → Does search (scanning (left-label search left) (diagonal-steps search ground (left .cell) (getD cells k 0 ∷ []))) between after
+      → Does search (scanning (left-label search left) (diagonal-steps search ground (left .cell) (part cells start (k + 1)))) before after
+  diagonal-on start = one-scanned search left (diagonal-steps search ground (left .cell)) (diagonal-append search ground (left .cell)) cells start
 
 -- ---- what the callees ask
 
 pub straight-asks : {rule : Rule} {size : Size} {obstacles : List ℕ} {u v : ℕ} → MayAsk rule size obstacles u v → avoids rule ≡ true → v < length obstacles
 straight-asks asks reads = rw (asks .lent reads) (asks .pair .second)
 
-pub entering-at :
-    {search : Search} {obstacles : List ℕ} {u : ℕ} {cells : List ℕ} {start end : ℕ} {first b : Buffers}
-    → Scanning search obstacles u cells start end first → Good search b → (k : ℕ) → Entering search obstacles u (getD cells k 0) b
-entering-at scans good k = record {
-  good = good;
-  may-ask = record { pair = record { bounds = scans .setting .bounds; first = scans .source; second = scans .inside k }; lent = scans .setting .obstacles-length };
-}
+module _
+    {search : Search} {ground : Terrain} {u : ℕ} {cells : List ℕ} {start end : ℕ} {first b : Buffers}
+    (scans : Scanning search ground u cells start end first) (good : Good search b) (k : ℕ)
+  where
+    pub entering-at : Entering search ground u (getD cells k 0) b
+    entering-at = record {
+      good = good;
+      may-ask = record { pair = record { bounds = scans .setting .bounds; first = scans .source; second = scans .inside k }; lent = scans .setting .obstacles-length };
+      timed = record { lent = scans .setting .times-length; first = scans .source; second = scans .inside k };
+    }
+
+pub relaxes : {search : Search} {ground : Terrain} {u v : ℕ} {b : Buffers} → Entering search ground u v b → Relaxes search (ground .times) u v b
+relaxes enters = record { tries = record { good = enters .good; inside = enters .timed .second }; timed = enters .timed }

@@ -18,8 +18,9 @@ use Rattle.rules.specs.Values.{Carried}
 use Rattle.spread.specs.declared.search.Rule.{Rule}
 use Rattle.spread.specs.declared.search.Search.{Search}
 use Rattle.spread.specs.declared.relax.Left.{Left}
+use Rattle.spread.specs.declared.take.Took.{Took}
 use Rattle.spread.specs.Nets.{carries}
-use Rattle.spread.specs.Steps.{labelled, straight-steps, diagonal-steps, Follows}
+use Rattle.spread.specs.Steps.{Terrain, labelled, straight-steps, diagonal-steps, Follows}
 use Rattle.spread.specs.Waiting.{Waiting, SomeWait, TookFirst}
 use Rattle.spread.specs.Buffers.{Buffers, buffers, Good, Holds, Does, scanning}
 use Rattle.spread.specs.Loop.{left-label, listed-steps, CanLeave, LeftCell, Scanning, Taking, TookCell}
@@ -30,13 +31,13 @@ use Rattle.spread.proofs.Scans.{part, does-both}
 
 -- The straight ones and then the diagonal ones.
 pub both-scanned :
-    (search : Search) (obstacles : List ℕ) (left : Left) (cells : List ℕ) (middle end : ℕ) {before between after : Buffers}
-    → Does search (scanning (left-label search left) (straight-steps search obstacles (lib.ListN.take middle cells))) before between
-    → Does search (scanning (left-label search left) (diagonal-steps search obstacles (left .cell) (part cells middle end))) between after
-    → Does search (scanning (left-label search left) (listed-steps search obstacles (left .cell) cells middle end)) before after
-both-scanned search obstacles left cells middle end does does-then =
+    (search : Search) (ground : Terrain) (left : Left) (cells : List ℕ) (middle end : ℕ) {before between after : Buffers}
+    → Does search (scanning (left-label search left) (straight-steps search ground (left .cell) (lib.ListN.take middle cells))) before between
+    → Does search (scanning (left-label search left) (diagonal-steps search ground (left .cell) (part cells middle end))) between after
+    → Does search (scanning (left-label search left) (listed-steps search ground (left .cell) cells middle end)) before after
+both-scanned search ground left cells middle end does does-then =
     does-both does does-then (λ net t.
-    sym (scan-append net (left-label search left) (straight-steps search obstacles (lib.ListN.take middle cells)) (diagonal-steps search obstacles (left .cell) (part cells middle end)) t))
+    sym (scan-append net (left-label search left) (straight-steps search ground (left .cell) (lib.ListN.take middle cells)) (diagonal-steps search ground (left .cell) (part cells middle end)) t))
 
 -- A search with its own rule written out is the same search.
 abbrev pub with-rule : Rule → Search → Search
@@ -47,16 +48,16 @@ module _ {search : Search} {rule : Rule} (is-rule : search .rule ≡ rule) where
   same-search = ap (λ r. with-rule r search) is-rule
 
   pub scanning-as :
-      {obstacles : List ℕ} {u : ℕ} {cells : List ℕ} {start end : ℕ} {b : Buffers}
-      → Scanning search obstacles u cells start end b → Scanning (with-rule rule search) obstacles u cells start end b
-  scanning-as {obstacles} {u} {cells} {start} {end} {b} = subst (λ s. Scanning s obstacles u cells start end b) same-search
+      {ground : Terrain} {u : ℕ} {cells : List ℕ} {start end : ℕ} {b : Buffers}
+      → Scanning search ground u cells start end b → Scanning (with-rule rule search) ground u cells start end b
+  scanning-as {ground} {u} {cells} {start} {end} {b} = subst (λ s. Scanning s ground u cells start end b) same-search
 
   pub scanned-as :
-      (obstacles : List ℕ) (left : Left) (cells : List ℕ) (start end : ℕ) {before after : Buffers}
-      → Does (with-rule rule search) (scanning (left-label (with-rule rule search) left) (listed-steps (with-rule rule search) obstacles (left .cell) cells start end)) before after
-      → Does search (scanning (left-label search left) (listed-steps search obstacles (left .cell) cells start end)) before after
-  scanned-as obstacles left cells start end {before} {after} =
-      subst (λ s. Does s (scanning (left-label s left) (listed-steps s obstacles (left .cell) cells start end)) before after) (sym same-search)
+      (ground : Terrain) (left : Left) (cells : List ℕ) (start end : ℕ) {before after : Buffers}
+      → Does (with-rule rule search) (scanning (left-label (with-rule rule search) left) (listed-steps (with-rule rule search) ground (left .cell) cells start end)) before after
+      → Does search (scanning (left-label search left) (listed-steps search ground (left .cell) cells start end)) before after
+  scanned-as ground left cells start end {before} {after} =
+      subst (λ s. Does s (scanning (left-label s left) (listed-steps s ground (left .cell) cells start end)) before after) (sym same-search)
 
 -- ---- the cell that is left
 
@@ -71,8 +72,8 @@ module _ {rule : Rule} {distances carried : List Float} {cell : ℕ} where
 -- ---- the take
 
 module _
-    {search : Search} {obstacles : List ℕ} {distances carried : List Float} {marks queue : List ℕ} {ring : Ring}
-    (takes : Taking search obstacles (buffers distances carried marks queue ring))
+    {search : Search} {ground : Terrain} {distances carried : List Float} {marks queue : List ℕ} {ring : Ring}
+    (takes : Taking search ground (buffers distances carried marks queue ring))
   where
     pub some-wait : SomeWait marks queue ring
     some-wait = record { waits = subst (λ n. Waiting n marks queue ring) (sym (takes .good .marks-length)) (takes .good .waits); some = takes .some }
@@ -96,7 +97,7 @@ module _
       }
 
       module _ {left : Left} (leaves : LeftCell (search .rule) distances carried (taken .cell) left) {near : Neighbours} (lists : Lists (search .size) (taken .cell) near) where
-        pub scans : Scanning search obstacles (left .cell) (near .cells) (near .straight) (near .count) (buffers distances carried marks′ queue (taken .ring))
+        pub scans : Scanning search ground (left .cell) (near .cells) (near .straight) (near .count) (buffers distances carried marks′ queue (taken .ring))
         scans = record {
           good = good-taken;
           setting = takes .setting;
@@ -109,21 +110,24 @@ module _
 
         -- The listed steps are the net's.
         net-steps :
-            (net : Net Carried) → Follows search obstacles net
-            → net .nbrs (taken .cell) ≡ listed-steps search obstacles (left .cell) (near .cells) (near .straight) (near .count)
+            (net : Net Carried) → Follows search ground net
+            → net .nbrs (taken .cell) ≡ listed-steps search ground (left .cell) (near .cells) (near .straight) (near .count)
         net-steps net follows =
             follows .steps (taken .cell)
-            ∙ ap (λ l. straight-steps search obstacles l ++ diagonal-steps search obstacles (taken .cell) (diagonal-neighbours (search .size) (taken .cell))) (sym (lists .straight-ones))
-            ∙ ap (λ l. straight-steps search obstacles (lib.ListN.take (near .straight) (near .cells)) ++ diagonal-steps search obstacles (taken .cell) l) (sym (lists .diagonal-ones))
-            ∙ ap (λ u. listed-steps search obstacles u (near .cells) (near .straight) (near .count)) (sym (leaves .same-cell))
+            ∙ ap (λ l. straight-steps search ground (taken .cell) l ++ diagonal-steps search ground (taken .cell) (diagonal-neighbours (search .size) (taken .cell))) (sym (lists .straight-ones))
+            ∙ ap (λ l. straight-steps search ground (taken .cell) (lib.ListN.take (near .straight) (near .cells)) ++ diagonal-steps search ground (taken .cell) l) (sym (lists .diagonal-ones))
+            ∙ ap (λ u. listed-steps search ground u (near .cells) (near .straight) (near .count)) (sym (leaves .same-cell))
 
         -- The machine takes the same cell, leaves the same others waiting, and scans the same steps from the same label.
         pub took-cell :
             {after : Buffers}
-            → Does search (scanning (left-label search left) (listed-steps search obstacles (left .cell) (near .cells) (near .straight) (near .count))) (buffers distances carried marks′ queue (taken .ring)) after
-            → TookCell search obstacles (buffers distances carried marks queue ring) after
+            → Does search (scanning (left-label search left) (listed-steps search ground (left .cell) (near .cells) (near .straight) (near .count))) (buffers distances carried marks′ queue (taken .ring)) after
+            → TookCell search ground (buffers distances carried marks queue ring) after (record { cell = taken .cell; distance = left .distance; ring = after .ring })
         took-cell {after} does = record {
           good = does .good;
+          head = λ u ws e. let same : u ∷ ws ≡ taken .cell ∷ contents queue (taken .ring) = sym e ∙ took .split in cc;
+          inside = cell-inside;
+          at-distance = ap (λ l. l .0) (leaves .label);
           holds = λ net follows t held u ws e.
               let head : u ∷ ws ≡ taken .cell ∷ contents queue (taken .ring) = sym e ∙ held .waiting ∙ took .split in
               let same-head : u ≡ taken .cell = cc in

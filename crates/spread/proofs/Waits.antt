@@ -14,25 +14,8 @@ use Rattle.cells.specs.declared.ring.Ring.{Ring}
 use Rattle.cells.specs.declared.ring.Taken.{Taken}
 use Rattle.fifo.specs.Machine.{among, passing}
 use Rattle.fifo.specs.Walk.{In, NoDup}
-use Rattle.fifo.proofs.Lists.{tested, true-or-false, same-or-not, among-in, in-among, in-back, in-either, joined-waiting, joined-new, no-dup-joined, no-dup-no-longer, in-passing, length-passing}
+use Rattle.fifo.proofs.Lists.{tested, true-or-false, same-or-not, among-in, in-among, in-back, in-either, joined-waiting, joined-new, no-dup-joined, no-dup-no-longer, in-passing, length-passing, not-among, among-other, among-tail, among-last}
 use Rattle.spread.specs.Waiting.{border, Waiting, Beginning, Began, Joining, Joined, TookFirst}
-
--- ---- membership, as a test
-
-not-among : (c : ℕ) (l : List ℕ) → (In c l → ⊥) → among c l ≡ false
-not-among c l out = ⊎-elim (λ t. absurd (out (among-in c l t))) (λ f. f) (tested (among c l))
-
-among-other : (c v : ℕ) (l : List ℕ) → (c ≡ v → ⊥) → among c (l ++ v ∷ []) ≡ among c l
-unfolding among
-among-other c v [] other = ap (λ b. b || false) (ne-eqb c v other)
-among-other c v (w ∷ l) other = ap (λ b. eqb c w || b) (among-other c v l other)
-
-among-tail : (c v : ℕ) (l : List ℕ) → (c ≡ v → ⊥) → among c (v ∷ l) ≡ among c l
-unfolding among
-among-tail c v l other = ap (λ b. b || among c l) (ne-eqb c v other)
-
-among-last : (v : ℕ) (l : List ℕ) → among v (l ++ v ∷ []) ≡ true
-among-last v l = in-among v (l ++ v ∷ []) (in-back v l (v ∷ []) (inl refl))
 
 -- ---- marks and ring
 

@@ -9,16 +9,18 @@ use Rattle.fifo.specs.Machine.{initial, takes, finish, takes-of}
 use Rattle.rules.specs.Sizes.{count}
 use Rattle.spread.specs.declared.search.Search.{Search}
 use Rattle.spread.specs.Nets.{Grids, net-of, carries, labels-of}
-use Rattle.spread.specs.Begin.{Inputs, Lengths}
+use Rattle.spread.specs.Steps.{terrain}
+use Rattle.spread.specs.First.{Inputs}
+use Rattle.spread.specs.Begin.{Lengths}
 use Rattle.spread.specs.Loop.{Setting}
 
-abbrev pub grids : List ℕ → List ℕ → List Float → Grids
-grids targets obstacles values = record { targets = targets; obstacles = obstacles; values = values }
+abbrev pub grids : List ℕ → List ℕ → List Float → List Float → Grids
+grids targets obstacles times values = record { targets = targets; obstacles = obstacles; times = times; values = values }
 
 -- The grids and the buffers that the rule uses have their lengths, and the search takes no more than the square of the number of cells.
 pub record Spreads (search : Search) (grids : Grids) (distances carried : List Float) (marks queue : List ℕ) : Type 0 where
-  pub inputs : Inputs search (grids .targets) (grids .values)
-  pub setting : Setting search (grids .obstacles)
+  pub inputs : Inputs search (grids .targets) (grids .times) (grids .values)
+  pub setting : Setting search (terrain (grids .obstacles) (grids .times))
   pub lengths : Lengths search distances carried marks queue
   pub within : (k : ℕ) → takes (net-of search grids) k (initial (net-of search grids)) ≤ count (search .size) * count (search .size)
 

@@ -11,21 +11,34 @@ use Rattle.fifo.specs.Machine.{Net}
 use Rattle.rules.specs.declared.Size.{Size}
 use Rattle.rules.specs.Sizes.{Grid, in-bounds, count}
 use Rattle.rules.specs.Cells.{index, row-of, col-of, straight-neighbours, diagonal-neighbours, keep, over}
-use Rattle.rules.specs.Distances.{plus-step, free, blocked}
-use Rattle.rules.specs.Values.{Carried, nearer, carrying}
+use Rattle.rules.specs.Distances.{plus-step, plus-half-sum, free, blocked}
+use Rattle.rules.specs.Values.{Carried, nearer, carrying, plus-time}
+use Rattle.rules.specs.Sums.{plus-time-or-quarter}
 use Rattle.spread.specs.declared.search.Rule.{Rule}
-use Rattle.spread.specs.declared.search.Rule.the-variants.{Plain, Obstacles, Closest}
+use Rattle.spread.specs.declared.search.Rule.the-variants.{Plain, Obstacles, HalfSum, Closest, ByTime, FromMaskCell, FromAmount}
 use Rattle.spread.specs.declared.search.Search.{Search}
-use Rattle.spread.specs.Nets.{carries}
+use Rattle.spread.specs.Nets.{sized, carries, reads-times}
 
--- The candidate for a cell v that is entered over a step of length s from a cell at distance d.
-abbrev pub formula : Rule → Float → ℕ → Float → Float
-formula Plain = plus-step
-formula (Obstacles diagonals) = plus-step
-formula Closest = plus-step
+-- What lies in the way: the obstacles, and the times of the cells.
+pub record Terrain : Type 0 where
+  pub obstacles : List ℕ
+  pub times : List Float
 
-abbrev pub entering : Rule → Float → ℕ → Carried → Carried
-entering rule = carrying (formula rule)
+abbrev pub terrain : List ℕ → List Float → Terrain
+terrain obstacles times = record { obstacles = obstacles; times = times }
+
+-- The candidate for a cell v that is entered from the cell u, over a step of length s from distance d.
+abbrev pub formula : Rule → Grid Float → ℕ → Float → ℕ → Float → Float
+formula Plain times u = plus-step
+formula (Obstacles diagonals) times u = plus-step
+formula HalfSum times u = plus-half-sum times u
+formula Closest times u = plus-step
+formula ByTime times u = plus-time times
+formula (FromMaskCell origin) times u = plus-half-sum times u
+formula (FromAmount origin) times u = plus-time-or-quarter times
+
+abbrev pub entering : Search → List Float → ℕ → Float → ℕ → Carried → Carried
+entering search times u = carrying (formula (search .rule) (sized search times) u)
 
 -- The label of a cell at a distance, with the value that goes along where the rule carries one.
 abbrev pub labelled : Rule → Float → Float → Carried
@@ -35,39 +48,51 @@ labelled rule distance value = (distance, cond (carries rule) value nan)
 abbrev pub avoids : Rule → Bool
 avoids Plain = false
 avoids (Obstacles diagonals) = true
+avoids HalfSum = false
 avoids Closest = false
+avoids ByTime = false
+avoids (FromMaskCell origin) = false
+avoids (FromAmount origin) = false
 
 -- Whether v may be entered straight, and diagonally from u.
 abbrev pub may-straight : Rule → Grid ℕ → ℕ → Bool
 may-straight Plain obstacles v = true
 may-straight (Obstacles diagonals) obstacles v = free obstacles v
+may-straight HalfSum obstacles v = true
 may-straight Closest obstacles v = true
+may-straight ByTime obstacles v = true
+may-straight (FromMaskCell origin) obstacles v = true
+may-straight (FromAmount origin) obstacles v = true
 
 abbrev pub may-diagonal : Rule → Grid ℕ → ℕ → ℕ → Bool
 may-diagonal Plain obstacles u v = true
 may-diagonal (Obstacles diagonals) obstacles u v = free obstacles v && not (blocked diagonals obstacles u v)
+may-diagonal HalfSum obstacles u v = true
 may-diagonal Closest obstacles u v = true
+may-diagonal ByTime obstacles u v = true
+may-diagonal (FromMaskCell origin) obstacles u v = true
+may-diagonal (FromAmount origin) obstacles u v = true
 
 abbrev pub on : Size → List ℕ → Grid ℕ
 on size obstacles = record { size = size; cells = obstacles }
 
--- The steps to those of the cells that may be entered.
-unfoldable pub straight-steps : Search → List ℕ → List ℕ → List (ℕ × (Carried → Carried))
-straight-steps search obstacles vs =
-    map (over straight (entering (search .rule))) (keep (may-straight (search .rule) (on (search .size) obstacles)) vs)
+-- The steps from u to those of the cells that may be entered.
+unfoldable pub straight-steps : Search → Terrain → ℕ → List ℕ → List (ℕ × (Carried → Carried))
+straight-steps search ground u vs =
+    map (over straight (entering search (ground .times) u)) (keep (may-straight (search .rule) (on (search .size) (ground .obstacles))) vs)
 
-unfoldable pub diagonal-steps : Search → List ℕ → ℕ → List ℕ → List (ℕ × (Carried → Carried))
-diagonal-steps search obstacles u vs =
-    map (over diagonal (entering (search .rule))) (keep (may-diagonal (search .rule) (on (search .size) obstacles) u) vs)
+unfoldable pub diagonal-steps : Search → Terrain → ℕ → List ℕ → List (ℕ × (Carried → Carried))
+diagonal-steps search ground u vs =
+    map (over diagonal (entering search (ground .times) u)) (keep (may-diagonal (search .rule) (on (search .size) (ground .obstacles)) u) vs)
 
 -- The net's order is by distance, and its neighbours are these steps.
-pub record Follows (search : Search) (obstacles : List ℕ) (net : Net Carried) : Type 0 where
+pub record Follows (search : Search) (ground : Terrain) (net : Net Carried) : Type 0 where
   pub nearest : net .below ≡ nearer
   pub steps :
       (u : ℕ)
       → net .nbrs u
-      ≡ straight-steps search obstacles (straight-neighbours (search .size) u)
-      ++ diagonal-steps search obstacles u (diagonal-neighbours (search .size) u)
+      ≡ straight-steps search ground u (straight-neighbours (search .size) u)
+      ++ diagonal-steps search ground u (diagonal-neighbours (search .size) u)
 
 -- ---- what the code of the tests asks and promises
 
@@ -95,3 +120,9 @@ pub record Among (size : Size) (obstacles : List ℕ) (u v : ℕ) : Type 0 where
 pub record MayAsk (rule : Rule) (size : Size) (obstacles : List ℕ) (u v : ℕ) : Type 0 where
   pub pair : Pair size u v
   pub lent : avoids rule ≡ true → length obstacles ≡ count size
+
+-- The times of two cells can be read where the rule reads them.
+pub record Timed (search : Search) (times : List Float) (u v : ℕ) : Type 0 where
+  pub lent : reads-times (search .rule) ≡ true → length times ≡ count (search .size)
+  pub first : u < count (search .size)
+  pub second : v < count (search .size)

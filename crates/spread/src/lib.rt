@@ -5,14 +5,20 @@
 // (specs/Promise.antt). Each function below it promises that the buffers hold, after it, the machine's
 // operation on the state that they held before (specs/Buffers.antt).
 mod begin;
+mod first;
+mod formulas;
 mod relax;
 mod run;
 mod scan;
+mod scan_all;
 mod search;
 mod steps;
 mod take;
 mod waiting;
 
+pub use begin::begin_cells;
 pub use run::spread;
 pub use search::Rule;
 pub use search::Search;
+pub use take::Took;
+pub use take::take_cell;

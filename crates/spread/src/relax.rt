@@ -1,17 +1,17 @@
 // One neighbour is tried: its candidate is stored if it is below the neighbour's distance.
+use crate::formulas::candidate;
 use crate::search::Rule;
 use crate::search::Search;
 use crate::waiting::wait;
 use cells::Ring;
 ghost use mathlib.Core.Path.{_≡_};
 ghost use mathlib.Core.Bool.{true};
-ghost use Prim.Native.Nat.{ℕ, _<_};
-ghost use lib.Ieee as Ieee;
+ghost use Prim.Native.Nat.{_<_};
 ghost use lib.ListN.{length};
 ghost use Rattle.spread.specs.Nets as net;
-ghost use Rattle.spread.specs.Steps.{formula, entering, labelled};
+ghost use Rattle.spread.specs.Steps.{entering, labelled};
 ghost use Rattle.spread.specs.Buffers.{buffers, carried-on, storing, relaxing, Does};
-ghost use Rattle.spread.specs.Loop.{left-label, Trying};
+ghost use Rattle.spread.specs.Loop.{left-label, Trying, Relaxes};
 
 // The cell that is left, with the label that it had when it was taken.
 pub struct Left {
@@ -27,7 +27,11 @@ pub fn carries(rule: Rule) -> bool
     match rule {
         Rule::Plain => false,
         Rule::Obstacles(_) => false,
+        Rule::HalfSum => false,
         Rule::Closest => true,
+        Rule::ByTime => true,
+        Rule::FromMaskCell(_) => false,
+        Rule::FromAmount(_) => false,
     }
 }
 
@@ -39,24 +43,6 @@ pub fn carry(rule: Rule, cell: u32, value: f32, carried: &mut [f32])
     let at = cell as usize;
     if carries(rule) {
         carried[at] = value;
-    }
-}
-
-// A step of length s further from distance d.
-fn plus_step(d: f32, s: f32) -> f32
-    ensures { λ r. ⌜ r ≡ Ieee.add Ieee.binary32 d s ⌝ }
-{
-    d + s
-}
-
-// The distance over a step from the cell that is left, by the rule's formula.
-fn candidate(rule: Rule, left: Left, step: f32) -> f32
-    ensures { λ r. ⌜ ((v : ℕ) → r ≡ formula rule step v (left .distance)) ⌝ }
-{
-    match rule {
-        Rule::Plain => plus_step(left.distance, step),
-        Rule::Obstacles(_) => plus_step(left.distance, step),
-        Rule::Closest => plus_step(left.distance, step),
     }
 }
 
@@ -87,6 +73,7 @@ fn store(
 // Tries a cell over a step of this length.
 pub fn relax(
     search: Search,
+    times: &[f32],
     left: Left,
     step: f32,
     cell: u32,
@@ -96,14 +83,13 @@ pub fn relax(
     queue: &mut [u32],
     ring: Ring,
 ) -> Ring
-    requires { ⌜ Trying search cell (buffers (now distances) (now carried) (now marks) (now queue) ring) ⌝ }
-    ensures { λ r. ⌜ Does search (relaxing (left-label search left) cell (entering (search .rule) step cell))
+    requires { ⌜ Relaxes search (now times) (left .cell) cell (buffers (now distances) (now carried) (now marks) (now queue) ring) ⌝ }
+    ensures { λ r. ⌜ Does search (relaxing (left-label search left) cell (entering search (now (times .entry)) (left .cell) step cell))
         (buffers (now (distances .entry)) (now (carried .entry)) (now (marks .entry)) (now (queue .entry)) ring)
         (buffers (now (distances .exit)) (now (carried .exit)) (now (marks .exit)) (now (queue .exit)) r) ⌝ }
 {
     let at = cell as usize;
-    let rule = search.rule;
-    let distance = candidate(rule, left, step);
+    let distance = candidate(search, times, left, step, cell);
     if distances[at] > distance {
         return store(
             search,

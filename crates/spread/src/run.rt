@@ -1,9 +1,10 @@
 // The loop: cells are taken until nothing waits.
-use crate::begin::begin;
+use crate::begin::begin_cells;
 use crate::search::Search;
 use crate::take::take_cell;
 use cells::Ring;
 use cells::is_empty;
+ghost use Rattle.spread.specs.Steps.{terrain};
 ghost use Rattle.spread.specs.Buffers.{buffers};
 ghost use Rattle.spread.specs.Loop.{Running, Ran};
 ghost use Rattle.spread.specs.Promise.{grids, Spreads, Spread};
@@ -12,21 +13,32 @@ ghost use Rattle.spread.specs.Promise.{grids, Spreads, Spread};
 fn run(
     search: Search,
     obstacles: &[u8],
+    times: &[f32],
     distances: &mut [f32],
     carried: &mut [f32],
     marks: &mut [u8],
     queue: &mut [u32],
     ring: Ring,
 ) -> u64
-    requires { ⌜ Running search (now obstacles) (buffers (now distances) (now carried) (now marks) (now queue) ring) ⌝ }
-    ensures { λ r. ⌜ Ran search (now (obstacles .entry))
+    requires { ⌜ Running search (terrain (now obstacles) (now times)) (buffers (now distances) (now carried) (now marks) (now queue) ring) ⌝ }
+    ensures { λ r. ⌜ Ran search (terrain (now (obstacles .entry)) (now (times .entry)))
         (buffers (now (distances .entry)) (now (carried .entry)) (now (marks .entry)) (now (queue .entry)) ring)
         (now (distances .exit)) (now (carried .exit)) (now (marks .exit)) (now (queue .exit)) r ⌝ }
 {
     let mut waiting = ring;
     let mut takes: u64 = 0;
     while !is_empty(waiting) {
-        waiting = take_cell(search, obstacles, distances, carried, marks, queue, waiting);
+        let took = take_cell(
+            search,
+            obstacles,
+            times,
+            distances,
+            carried,
+            marks,
+            queue,
+            waiting,
+        );
+        waiting = took.ring;
         takes += 1;
     }
     takes
@@ -37,18 +49,37 @@ pub fn spread(
     search: Search,
     targets: &[u8],
     obstacles: &[u8],
+    times: &[f32],
     values: &[f32],
     distances: &mut [f32],
     carried: &mut [f32],
     marks: &mut [u8],
     queue: &mut [u32],
 ) -> u64
-    requires { ⌜ Spreads search (grids (now targets) (now obstacles) (now values)) (now distances) (now carried) (now marks) (now queue) ⌝ }
+    requires { ⌜ Spreads search (grids (now targets) (now obstacles) (now times) (now values)) (now distances) (now carried) (now marks) (now queue) ⌝ }
     ensures { λ r. ⌜ Spread search
-        (grids (now (targets .entry)) (now (obstacles .entry)) (now (values .entry)))
+        (grids (now (targets .entry)) (now (obstacles .entry)) (now (times .entry)) (now (values .entry)))
         (now (carried .entry))
         (now (distances .exit)) (now (carried .exit)) (now (marks .exit)) (now (queue .exit)) r ⌝ }
 {
-    let ring = begin(search, targets, values, distances, carried, marks, queue);
-    run(search, obstacles, distances, carried, marks, queue, ring)
+    let ring = begin_cells(
+        search,
+        targets,
+        times,
+        values,
+        distances,
+        carried,
+        marks,
+        queue,
+    );
+    run(
+        search,
+        obstacles,
+        times,
+        distances,
+        carried,
+        marks,
+        queue,
+        ring,
+    )
 }

@@ -10,7 +10,7 @@ use cells::Ring;
 ghost use mathlib.Core.List.{[], _∷_};
 ghost use Prim.Native.Nat.{_-_};
 ghost use lib.ListN.{take, drop};
-ghost use Rattle.spread.specs.Steps.{straight-steps, diagonal-steps};
+ghost use Rattle.spread.specs.Steps.{terrain, straight-steps, diagonal-steps};
 ghost use Rattle.spread.specs.Buffers.{buffers, scanning, Does};
 ghost use Rattle.spread.specs.Loop.{left-label, Entering, Scanning};
 
@@ -18,6 +18,7 @@ ghost use Rattle.spread.specs.Loop.{left-label, Entering, Scanning};
 fn try_straight(
     search: Search,
     obstacles: &[u8],
+    times: &[f32],
     left: Left,
     cell: u32,
     distances: &mut [f32],
@@ -26,8 +27,8 @@ fn try_straight(
     queue: &mut [u32],
     ring: Ring,
 ) -> Ring
-    requires { ⌜ Entering search (now obstacles) (left .cell) cell (buffers (now distances) (now carried) (now marks) (now queue) ring) ⌝ }
-    ensures { λ r. ⌜ Does search (scanning (left-label search left) (straight-steps search (now (obstacles .entry)) (cell ∷ [])))
+    requires { ⌜ Entering search (terrain (now obstacles) (now times)) (left .cell) cell (buffers (now distances) (now carried) (now marks) (now queue) ring) ⌝ }
+    ensures { λ r. ⌜ Does search (scanning (left-label search left) (straight-steps search (terrain (now (obstacles .entry)) (now (times .entry))) (left .cell) (cell ∷ [])))
         (buffers (now (distances .entry)) (now (carried .entry)) (now (marks .entry)) (now (queue .entry)) ring)
         (buffers (now (distances .exit)) (now (carried .exit)) (now (marks .exit)) (now (queue .exit)) r) ⌝ }
 {
@@ -35,6 +36,7 @@ fn try_straight(
     if may_straight(rule, obstacles, cell) {
         return relax(
             search,
+            times,
             left,
             STRAIGHT,
             cell,
@@ -52,6 +54,7 @@ fn try_straight(
 fn try_diagonal(
     search: Search,
     obstacles: &[u8],
+    times: &[f32],
     left: Left,
     cell: u32,
     distances: &mut [f32],
@@ -60,8 +63,8 @@ fn try_diagonal(
     queue: &mut [u32],
     ring: Ring,
 ) -> Ring
-    requires { ⌜ Entering search (now obstacles) (left .cell) cell (buffers (now distances) (now carried) (now marks) (now queue) ring) ⌝ }
-    ensures { λ r. ⌜ Does search (scanning (left-label search left) (diagonal-steps search (now (obstacles .entry)) (left .cell) (cell ∷ [])))
+    requires { ⌜ Entering search (terrain (now obstacles) (now times)) (left .cell) cell (buffers (now distances) (now carried) (now marks) (now queue) ring) ⌝ }
+    ensures { λ r. ⌜ Does search (scanning (left-label search left) (diagonal-steps search (terrain (now (obstacles .entry)) (now (times .entry))) (left .cell) (cell ∷ [])))
         (buffers (now (distances .entry)) (now (carried .entry)) (now (marks .entry)) (now (queue .entry)) ring)
         (buffers (now (distances .exit)) (now (carried .exit)) (now (marks .exit)) (now (queue .exit)) r) ⌝ }
 {
@@ -70,6 +73,7 @@ fn try_diagonal(
     if may_diagonal(rule, size, obstacles, left.cell, cell) {
         return relax(
             search,
+            times,
             left,
             DIAGONAL,
             cell,
@@ -87,6 +91,7 @@ fn try_diagonal(
 pub fn scan_straight(
     search: Search,
     obstacles: &[u8],
+    times: &[f32],
     left: Left,
     cells: &[u32; 8],
     end: usize,
@@ -96,9 +101,9 @@ pub fn scan_straight(
     queue: &mut [u32],
     ring: Ring,
 ) -> Ring
-    requires { ⌜ Scanning search (now obstacles) (left .cell) (now cells) 0 end
+    requires { ⌜ Scanning search (terrain (now obstacles) (now times)) (left .cell) (now cells) 0 end
         (buffers (now distances) (now carried) (now marks) (now queue) ring) ⌝ }
-    ensures { λ r. ⌜ Does search (scanning (left-label search left) (straight-steps search (now (obstacles .entry)) (take end (now (cells .entry)))))
+    ensures { λ r. ⌜ Does search (scanning (left-label search left) (straight-steps search (terrain (now (obstacles .entry)) (now (times .entry))) (left .cell) (take end (now (cells .entry)))))
         (buffers (now (distances .entry)) (now (carried .entry)) (now (marks .entry)) (now (queue .entry)) ring)
         (buffers (now (distances .exit)) (now (carried .exit)) (now (marks .exit)) (now (queue .exit)) r) ⌝ }
 {
@@ -108,6 +113,7 @@ pub fn scan_straight(
         waiting = try_straight(
             search,
             obstacles,
+            times,
             left,
             cells[k],
             distances,
@@ -125,6 +131,7 @@ pub fn scan_straight(
 pub fn scan_diagonal(
     search: Search,
     obstacles: &[u8],
+    times: &[f32],
     left: Left,
     cells: &[u32; 8],
     start: usize,
@@ -135,9 +142,9 @@ pub fn scan_diagonal(
     queue: &mut [u32],
     ring: Ring,
 ) -> Ring
-    requires { ⌜ Scanning search (now obstacles) (left .cell) (now cells) start end
+    requires { ⌜ Scanning search (terrain (now obstacles) (now times)) (left .cell) (now cells) start end
         (buffers (now distances) (now carried) (now marks) (now queue) ring) ⌝ }
-    ensures { λ r. ⌜ Does search (scanning (left-label search left) (diagonal-steps search (now (obstacles .entry)) (left .cell) (take (end - start) (drop start (now (cells .entry))))))
+    ensures { λ r. ⌜ Does search (scanning (left-label search left) (diagonal-steps search (terrain (now (obstacles .entry)) (now (times .entry))) (left .cell) (take (end - start) (drop start (now (cells .entry))))))
         (buffers (now (distances .entry)) (now (carried .entry)) (now (marks .entry)) (now (queue .entry)) ring)
         (buffers (now (distances .exit)) (now (carried .exit)) (now (marks .exit)) (now (queue .exit)) r) ⌝ }
 {
@@ -147,6 +154,7 @@ pub fn scan_diagonal(
         waiting = try_diagonal(
             search,
             obstacles,
+            times,
             left,
             cells[k],
             distances,

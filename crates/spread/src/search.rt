@@ -8,8 +8,16 @@ pub enum Rule {
     Plain,
     // distance_with_obstacles: d + s, past obstacles.
     Obstacles(BarrierDiagonals),
+    // travel_distances_up_to: d + (s / 2) * (a + b), from the targets, up to the limit.
+    HalfSum,
     // value_at_closest_target: d + s, and the value goes along.
     Closest,
+    // value_at_closest_travel_target and its form with a limit: d + s * b, and the value goes along.
+    ByTime,
+    // sum_within_travel_distance: d + (s / 2) * (a + b), from one cell.
+    FromMaskCell(u32),
+    // sum_targets_within_travel_distance: d + s * b, from one cell, where a nodata time can be crossed.
+    FromAmount(u32),
 }
 
 pub struct Search {

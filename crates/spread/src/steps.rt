@@ -59,7 +59,11 @@ pub fn may_straight(rule: Rule, obstacles: &[u8], to: u32) -> bool
     match rule {
         Rule::Plain => true,
         Rule::Obstacles(_) => is_free(obstacles, to),
+        Rule::HalfSum => true,
         Rule::Closest => true,
+        Rule::ByTime => true,
+        Rule::FromMaskCell(_) => true,
+        Rule::FromAmount(_) => true,
     }
 }
 
@@ -72,6 +76,10 @@ pub fn may_diagonal(rule: Rule, size: Size, obstacles: &[u8], from: u32, to: u32
         Rule::Plain => true,
         Rule::Obstacles(diagonals) => is_free(obstacles, to)
             && !is_blocked(diagonals, size, obstacles, from, to),
+        Rule::HalfSum => true,
         Rule::Closest => true,
+        Rule::ByTime => true,
+        Rule::FromMaskCell(_) => true,
+        Rule::FromAmount(_) => true,
     }
 }

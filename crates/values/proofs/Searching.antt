@@ -1,16 +1,20 @@
 -- From the tests to the search, and from its labels to the promise. Assumes nothing.
-use mathlib.Core.Bool.{true, false, false≢true}
+use mathlib.Core.Bool.{true, false, true≢false}
 use mathlib.Core.List.{List, [], _∷_}
 use mathlib.Core.Path.{_≡_, refl, sym, ap, _∙_, subst}
-use Prim.Native.Nat.{ℕ, _*_}
-use lib.Ieee.{Float}
-use lib.ListN.{length, replicate}
+use Prim.Native.Nat.{ℕ, suc, _*_}
+use lib.Dec.{T}
+use lib.Ieee.{Float, nan, binary32, fits, isNan}
+use lib.ListN.{length, getD, replicate}
 use Rattle.binary32.specs.Numbers.{plus-zero}
 use Rattle.fifo.specs.Machine.{finish, takes-of}
 use Rattle.rules.specs.declared.Size.{Size}
-use Rattle.rules.specs.Sizes.{Judged, Lent, Outcome, accepted, passes, unless, count}
-use Rattle.rules.specs.Values.{values-of, closest, refusals-4}
-use Rattle.rules.proofs.Nets.{closest-laws}
+use Rattle.rules.specs.Sizes.{Judged, Lent, Outcome, accepted, passes, unless, in-bounds, any, below-zero, count}
+use Rattle.rules.specs.Numbers.{infinity}
+use Rattle.rules.specs.Values.{values-of, closest, closest-by-time, refusals-4, refusals-5, refusals-6}
+use Rattle.rules.proofs.Inputs.{infinity-fits, infinity-not-nan}
+use Rattle.rules.proofs.Accepted.{accepted-5, accepted-6}
+use Rattle.rules.proofs.Nets.{closest-laws, closest-by-time-laws}
 use Rattle.calls.specs.declared.answer.Answer.{Answer}
 use Rattle.calls.specs.declared.answer.Answer.the-variants.{Accepted, Refused}
 use Rattle.calls.specs.declared.answer.Judged.{Judged as CodeJudged}
@@ -19,16 +23,21 @@ use Rattle.calls.specs.declared.answer.Refusal.{Refusal}
 use Rattle.calls.specs.Answer.{takes, judged-as}
 use Rattle.calls.specs.Given.{grid, lent}
 use Rattle.calls.specs.Promise.{Slice, slice}
-use Rattle.calls.proofs.Shapes.{shaped}
+use Rattle.calls.proofs.Shapes.{Shaped, shaped}
 use Rattle.calls.proofs.Untouched.{judged-writes, searched-is, buffer-untouched}
 use Rattle.calls.proofs.Promises.{promised-refused}
-use Rattle.spread.specs.declared.search.Rule.the-variants.{Closest}
+use Rattle.spread.specs.declared.search.Rule.the-variants.{Closest, ByTime}
 use Rattle.spread.specs.declared.search.Search.{Search}
-use Rattle.spread.specs.Nets.{Grids}
+use Rattle.spread.specs.Nets.{Grids, carries, reads-times}
+use Rattle.spread.specs.Steps.{avoids}
 use Rattle.spread.specs.Promise.{grids, Spread}
-use Rattle.spread.proofs.Agrees.{takes-within, closest-same}
+use Rattle.spread.proofs.Agrees.{RulesWithin, takes-within, closest-same, by-time-agrees, by-time-labels}
 use Rattle.spread.proofs.Results.{laws-within, values-are}
 use Rattle.values.specs.Promise.{PromisedValues, Searches, searched}
+
+-- The lengths of what these searches are lent.
+abbrev pub lent-of : List Float → List Float → List ℕ → List ℕ → Lent
+lent-of answer distances marks queue = lent (length answer ∷ length distances ∷ length marks ∷ []) (length queue)
 
 -- ---- after the search
 
@@ -69,6 +78,26 @@ module _ {refusals : Judged} (search : Unit {0} → Outcome) (judged : CodeJudge
   values-searched {r = r} {answer} {distances} {marks} {queue} is same kept =
       subst (λ (outcome : Outcome). PromisedValues outcome r answer distances marks queue) (same ∙ sym (searched-is search judged means is)) kept
 
+-- ---- before the search
+
+-- A rule that carries a value and avoids nothing can be searched by where every slice has its length, and the rules' net keeps within the square.
+can-search :
+    {search : Search} {targets : List ℕ} {times values answer distances : List Float} {marks queue : List ℕ}
+    → carries (search .rule) ≡ true → avoids (search .rule) ≡ false → T (in-bounds (search .size))
+    → length targets ≡ count (search .size) → (reads-times (search .rule) ≡ true → length times ≡ count (search .size)) → length values ≡ count (search .size)
+    → length answer ≡ count (search .size) → length distances ≡ count (search .size) → length marks ≡ count (search .size) → length queue ≡ suc (count (search .size))
+    → RulesWithin (count (search .size) * count (search .size)) (search .rule) search (grids targets targets times values)
+    → Searches search (grids targets targets times values) answer distances marks queue
+can-search {search} {targets} {times} {values} carried open-everywhere bounds targets-long times-long values-long answer-long distances-long marks-long queue-long within = record {
+  carrying = carried;
+  spreads = record {
+    inputs = record { bounds = bounds; targets-length = λ reads. targets-long; times-length = times-long; values-length = λ reads. values-long };
+    setting = record { bounds = bounds; obstacles-length = λ avoided. absurd (true≢false (sym avoided ∙ open-everywhere)); times-length = times-long };
+    lengths = record { distances-length = distances-long; carried-length = λ reads. answer-long; marks-length = marks-long; queue-length = queue-long };
+    within = takes-within (count (search .size) * count (search .size)) search (grids targets targets times values) within;
+  };
+}
+
 -- ---- search 4
 
 module _ (size : Size) (targets : List ℕ) (values-size : Size) (values : List Float) (limit : Float) where
@@ -77,32 +106,91 @@ module _ (size : Size) (targets : List ℕ) (values-size : Size) (values : List 
 
   pub closest-searches :
       (answer distances : List Float) (marks queue : List ℕ)
-      → refusals-4 (grid size targets) (grid values-size values) (lent (length answer ∷ length distances ∷ length marks ∷ []) (length queue)) ≡ passes
-      → Searches closest-search (grids targets targets values) answer distances marks queue
+      → refusals-4 (grid size targets) (grid values-size values) (lent-of answer distances marks queue) ≡ passes
+      → Searches closest-search (grids targets targets values values) answer distances marks queue
   unfolding refusals-4 closest
   closest-searches answer distances marks queue pass =
       let known = shaped _ _ _ _ _ (record { is = sym pass }) in
-      record {
-        carrying = refl;
-        spreads = record {
-          inputs = record { bounds = known .within; targets-length = known .long .0; values-length = λ carried. known .long .1 .0 };
-          setting = record { bounds = known .within; obstacles-length = λ avoided. absurd (false≢true avoided) };
-          lengths = record {
-            distances-length = known .long .1 .1 .1 .0;
-            carried-length = λ carried. known .long .1 .1 .0;
-            marks-length = known .long .1 .1 .1 .1 .0;
-            queue-length = known .queue-long;
-          };
-          within = takes-within (count size * count size) closest-search (grids targets targets values) (laws-within (closest-laws (grid size targets) (grid size values)));
-        };
-      }
+      can-search {search = closest-search} refl refl (known .within) (known .long .0) (λ reads. known .long .1 .0) (known .long .1 .0)
+      (known .long .1 .1 .0) (known .long .1 .1 .1 .0) (known .long .1 .1 .1 .1 .0) (known .queue-long)
+      (laws-within (closest-laws (grid size targets) (grid size values)))
 
   -- What the search answers, in the rules' words.
   pub closest-searched :
       (lent : Lent) → refusals-4 (grid size targets) (grid values-size values) lent ≡ passes
-      → searched closest-search (grids targets targets values)
+      → searched closest-search (grids targets targets values values)
       ≡ accepted (takes-of (closest (grid size targets) (grid values-size values))) (values-of (finish (closest (grid size targets) (grid values-size values)) .labels))
   unfolding searched refusals-4
   closest-searched lent pass =
       let known = shaped _ _ _ _ _ (record { is = sym pass }) in
-      rw (known .alike .0, closest-same closest-search (grids targets targets values) refl)
+      rw (known .alike .0, closest-same closest-search (grids targets targets values values) refl)
+
+-- ---- searches 5 and 6
+
+module _ (size : Size) (targets : List ℕ) (times-size : Size) (times : List Float) (values-size : Size) (values : List Float) (limit : Float) where
+  abbrev pub by-time-search : Search
+  by-time-search = record { rule = ByTime; size = size; limit = limit }
+
+  -- The takes and the values of the rules' net.
+  abbrev pub by-time-outcome : Outcome
+  by-time-outcome =
+      let net = closest-by-time (grid size targets) (grid times-size times) (grid values-size values) limit in
+      accepted (takes-of net) (values-of (finish net .labels))
+
+  -- What is known after the tests of the shape, and of the search's own.
+  module _
+      {lent : Lent}
+      (known : Shaped size (times-size ∷ values-size ∷ []) (length targets ∷ length times ∷ length values ∷ []) lent)
+    where
+      by-time-searches :
+          {answer distances : List Float} {marks queue : List ℕ} → lent ≡ lent-of answer distances marks queue
+          → ((c : ℕ) → T (fits binary32 (getD times c nan))) → T (fits binary32 limit) → isNan limit ≡ false → any below-zero times ≡ false
+          → Searches by-time-search (grids targets targets times values) answer distances marks queue
+      unfolding closest-by-time
+      by-time-searches same times-held held number none-negative =
+          let known = rw same at known in
+          can-search {search = by-time-search} refl refl (known .within) (known .long .0) (λ reads. known .long .1 .0) (known .long .1 .1 .0)
+          (known .long .1 .1 .1 .0) (known .long .1 .1 .1 .1 .0) (known .long .1 .1 .1 .1 .1 .0) (known .queue-long)
+          (laws-within (closest-by-time-laws (grid size targets) (grid size times) (grid size values) limit (record { held = times-held; none-negative = none-negative }) held number))
+
+      by-time-searched : searched by-time-search (grids targets targets times values) ≡ by-time-outcome
+      unfolding searched
+      by-time-searched =
+          let given = grids targets targets times values in
+          rw (known .alike .0, known .alike .1 .0, by-time-agrees by-time-search given refl .takes-at-end, by-time-labels by-time-search given refl)
+
+  -- From the tests of 6.
+  module _ (answer distances : List Float) (marks queue : List ℕ) (pass : refusals-6 (grid size targets) (grid times-size times) (grid values-size values) limit (lent-of answer distances marks queue) ≡ passes) where
+    pub searches-6 :
+        ((c : ℕ) → T (fits binary32 (getD times c nan))) → T (fits binary32 limit) → Searches by-time-search (grids targets targets times values) answer distances marks queue
+    unfolding refusals-6
+    searches-6 times-held held =
+        let (bounds, number, none-negative) = accepted-6 (grid size targets) (grid times-size times) (grid values-size values) limit (lent-of answer distances marks queue) pass in
+        by-time-searches (shaped _ _ _ _ _ (record { is = sym pass })) refl times-held held number none-negative
+
+    pub searched-6 : searched by-time-search (grids targets targets times values) ≡ by-time-outcome
+    unfolding refusals-6
+    searched-6 = by-time-searched (shaped _ _ _ _ _ (record { is = sym pass }))
+
+-- From the tests of 5, where the limit is infinity.
+module _
+    (size : Size) (targets : List ℕ) (times-size : Size) (times : List Float) (values-size : Size) (values : List Float) {limit : Float} (unlimited : limit ≡ infinity)
+    (answer distances : List Float) (marks queue : List ℕ)
+    (pass : refusals-5 (grid size targets) (grid times-size times) (grid values-size values) (lent-of answer distances marks queue) ≡ passes)
+  where
+    pub searches-5 :
+        ((c : ℕ) → T (fits binary32 (getD times c nan)))
+        → Searches (by-time-search size targets times-size times values-size values limit) (grids targets targets times values) answer distances marks queue
+    unfolding refusals-5
+    searches-5 times-held =
+        let (bounds, none-negative) = accepted-5 (grid size targets) (grid times-size times) (grid values-size values) (lent-of answer distances marks queue) pass in
+        by-time-searches size targets times-size times values-size values limit (shaped _ _ _ _ _ (record { is = sym pass })) refl times-held
+        (rw unlimited infinity-fits) (rw unlimited infinity-not-nan) none-negative
+
+    pub searched-5 :
+        searched (by-time-search size targets times-size times values-size values limit) (grids targets targets times values)
+        ≡ by-time-outcome size targets times-size times values-size values infinity
+    unfolding refusals-5
+    searched-5 =
+        by-time-searched size targets times-size times values-size values limit (shaped _ _ _ _ _ (record { is = sym pass }))
+        ∙ ap (by-time-outcome size targets times-size times values-size values) unlimited

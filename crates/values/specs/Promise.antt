@@ -9,7 +9,7 @@ use Rattle.binary32.specs.Numbers.{plus-zero}
 use Rattle.fifo.specs.Machine.{finish, takes-of}
 use Rattle.rules.specs.declared.Size.{Size}
 use Rattle.rules.specs.Sizes.{Lent, Outcome, accepted}
-use Rattle.rules.specs.Values.{values-of, outcome-4}
+use Rattle.rules.specs.Values.{values-of, outcome-4, outcome-5, outcome-6}
 use Rattle.calls.specs.declared.answer.Answer.{Answer}
 use Rattle.calls.specs.Answer.{buffer-after}
 use Rattle.calls.specs.Given.{grid, lent}
@@ -31,6 +31,16 @@ lengths answer distances marks queue = lent (length (answer .before) ∷ length 
 abbrev pub ValueAtClosestTarget : Size → List ℕ → Size → List Float → Slice Float → Slice Float → Slice ℕ → Slice ℕ → Answer → Type 0
 ValueAtClosestTarget targets-size targets values-size values answer distances marks queue r =
     PromisedValues (outcome-4 (grid targets-size targets) (grid values-size values) (lengths answer distances marks queue)) r answer distances marks queue
+
+-- 5: value_at_closest_travel_target.
+abbrev pub ValueAtClosestTravelTarget : Size → List ℕ → Size → List Float → Size → List Float → Slice Float → Slice Float → Slice ℕ → Slice ℕ → Answer → Type 0
+ValueAtClosestTravelTarget targets-size targets times-size times values-size values answer distances marks queue r =
+    PromisedValues (outcome-5 (grid targets-size targets) (grid times-size times) (grid values-size values) (lengths answer distances marks queue)) r answer distances marks queue
+
+-- 6: value_at_closest_less_than_travel_target.
+abbrev pub ValueAtClosestLessThanTravelTarget : Size → List ℕ → Size → List Float → Size → List Float → Float → Slice Float → Slice Float → Slice ℕ → Slice ℕ → Answer → Type 0
+ValueAtClosestLessThanTravelTarget targets-size targets times-size times values-size values limit answer distances marks queue r =
+    PromisedValues (outcome-6 (grid targets-size targets) (grid times-size times) (grid values-size values) limit (lengths answer distances marks queue)) r answer distances marks queue
 
 -- ---- the search once no test refuses
 

@@ -38,7 +38,16 @@ pub fn value_at_closest_target(
                 size: targets_size,
                 limit: 0.0,
             };
-            search_values(search, targets, values, answer, distances, marks, queue)
+            search_values(
+                search,
+                targets,
+                values,
+                values,
+                answer,
+                distances,
+                marks,
+                queue,
+            )
         }
     }
 }

@@ -1,26 +1,17 @@
 -- `search::search_distances` meets its contract. Assumes nothing.
+use Rattle.distances.proofs.Searching.{scaled-promised}
 use borrow.Author.Needs.{needs}
-use Rattle.distances.proofs.Searching.{searched-promised}
 use Rattle.distances.proofs.search.search_distances.Statement.{statement}
 use Rattle.distances.proofs.search.search_distances.Tie as tie
 
-slice-aggregate-spread : tie.Need-slice-aggregate-spread
-slice-aggregate-spread c = search needs
+slice-aggregate-find-distances : tie.Need-slice-aggregate-find-distances
+slice-aggregate-find-distances c = search needs
 
-slice-aggregate-spread-2 : tie.Need-slice-aggregate-spread-2
-slice-aggregate-spread-2 c = search needs
-
-spread-requires : tie.Need-spread-requires
-spread-requires c κs = c .before .before .before .before .before .before .before .before .before .before .pre .spreads _
+find-distances-requires : tie.Need-find-distances-requires
+find-distances-requires c κs = search needs
 
 scale-requires : tie.Need-scale-requires
 scale-requires c κs = search needs
-
-zero-bytes-requires : tie.Need-zero-bytes-requires
-zero-bytes-requires c κs = search needs
-
-zero-cells-requires : tie.Need-zero-cells-requires
-zero-cells-requires c κs = search needs
 
 same-length : tie.Need-same-length
 same-length c = search needs
@@ -32,24 +23,15 @@ same-length-3 : tie.Need-same-length-3
 same-length-3 c = search needs
 
 returns : tie.Need-returns
-returns c =
-    let zeroed-cells = c .before .before in
-    let zeroed-bytes = zeroed-cells .before .before .before .before in
-    let scaled = zeroed-bytes .before .before .before .before in
-    let found = scaled .before .before .before .before .before .before .before .before .before in
-    let start = found .before .before .before .before .before .before .before .before .before .before .before in
-    searched-promised (start .args .spacing) (start .pre .spreads _) (found .spread .ensures) (scaled .scale .ensures) (zeroed-bytes .zero-bytes .ensures) (zeroed-cells .zero-cells .ensures)
+returns c = scaled-promised (c .before .before .before .before .before .before .before .before .before .before .before .before .before .before .before .before .before .before .before .before .args .search) _ (c .before .before .before .before .before .before .before .before .before .before .find-distances .ensures) (c .before .before .before .before .before .before .before .before .before .before .before .before .before .before .before .before .before .before .before .before .args .spacing) (c .before .before .scale .ensures)
 
 pub search-distances-spec : {M : Type 1} → statement M
 search-distances-spec =
     tie.close
     (tie.spec
-    slice-aggregate-spread
-    slice-aggregate-spread-2
-    spread-requires
+    slice-aggregate-find-distances
+    find-distances-requires
     scale-requires
-    zero-bytes-requires
-    zero-cells-requires
     same-length
     same-length-2
     same-length-3

@@ -14,7 +14,7 @@ slice-write-distances : tie.Need-slice-write-distances
 slice-write-distances c = search needs
 
 carry-requires : tie.Need-carry-requires
-carry-requires c κs = value-inside (c .before .before .before .before .before .before .before .before .pre)
+carry-requires c κs = value-inside (c .before .before .before .before .before .before .before .before .before .pre)
 
 begin-waiting-requires : tie.Need-begin-waiting-requires
 begin-waiting-requires c κs = search needs
@@ -32,7 +32,7 @@ same-length-4 : tie.Need-same-length-4
 same-length-4 c = search needs
 
 returns : tie.Need-returns
-returns c = cell-begun (c .before .before .before .before .before .before .before .before .before .before .before .before .before .before .before .before .before .before .pre) (c .before .before .before .before .before .before .before .before .before .before .before .first-label .result) (c .before .before .before .before .before .before .before .before .before .before .before .first-label .ensures) (c .before .before .before .before .before .before .before .before .before .carry .ensures) (c .before .before .before .before .begin-waiting .ensures)
+returns c = cell-begun (c .before .before .before .before .before .before .before .before .before .before .before .before .before .before .before .before .before .before .before .pre) (c .before .before .before .before .before .before .before .before .before .before .before .first-label .result) (c .before .before .before .before .before .before .before .before .before .before .before .first-label .ensures) (c .before .before .before .before .before .before .before .before .before .carry .ensures) (c .before .before .before .before .begin-waiting .ensures)
 
 pub begin-cell-spec : {M : Type 1} → statement M
 begin-cell-spec =

@@ -29,12 +29,12 @@ same-length-4 : tie.Need-same-length-4
 same-length-4 c = search needs
 
 returns : tie.Need-returns
-returns c = let start = c .before .before .before .before .before .before .before .before .before .before .before .before .before .before .before .before .before .before .before .before in
-    relax-does (start .pre) (start .args .left) (start .args .step) (c .before .before .before .before .before .before .before .before .before .before .before .before .before .before .before .candidate .result) (c .before .before .before .before .before .before .before .before .before .before .before .before .before .before .before .candidate .ensures (start .args .cell)) (c .before .before .before .before .before .before .before .before .before .before .before .before .before .if1 .taken) (c .before .before .before .before .before .before .before .before .store .ensures)
+returns c = let start = c .before .before .before .before .before .before .before .before .before .before .before .before .before .before .before .before .before .before .before .before .before in
+    relax-does (start .pre .tries) (start .args .left) (start .args .step) (c .before .before .before .before .before .before .before .before .before .before .before .before .before .before .before .candidate .result) (start .args .times .now) (c .before .before .before .before .before .before .before .before .before .before .before .before .before .before .before .candidate .ensures) (c .before .before .before .before .before .before .before .before .before .before .before .before .before .if1 .taken) (c .before .before .before .before .before .before .before .before .store .ensures)
 
 returns-2 : tie.Need-returns-2
-returns-2 c = let start = c .before .before .before .before .before .before .before in
-    relax-does-nothing (start .pre) (start .args .left) (start .args .step) (c .before .before .candidate .result) (c .before .before .candidate .ensures (start .args .cell)) (c .if1 .left)
+returns-2 c = let start = c .before .before .before .before .before .before .before .before in
+    relax-does-nothing (start .pre .tries) (start .args .left) (start .args .step) (c .before .before .candidate .result) (start .args .times .now) (c .before .before .candidate .ensures) (c .if1 .left)
 
 pub relax-spec : {M : Type 1} → statement M
 relax-spec =

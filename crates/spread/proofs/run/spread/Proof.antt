@@ -4,11 +4,11 @@ use borrow.Author.Needs.{needs}
 use Rattle.spread.proofs.run.spread.Statement.{statement}
 use Rattle.spread.proofs.run.spread.Tie as tie
 
-begin-requires : tie.Need-begin-requires
-begin-requires c κs = search needs
+begin-cells-requires : tie.Need-begin-cells-requires
+begin-cells-requires c κs = search needs
 
 run-requires : tie.Need-run-requires
-run-requires c κs = begun-runs (c .before .before .before .before .before .before .before .before .before .before .before .before .before .before .before .before .before .before .before .before .before .before .before .before .pre) (c .before .before .before .before .before .before .before .before .before .before .before .before .begin .ensures)
+run-requires c κs = begun-runs (c .before .before .before .before .before .before .before .before .before .before .before .before .before .before .before .before .before .before .before .before .before .before .before .before .before .pre) (c .before .before .before .before .before .before .before .before .before .before .before .before .begin-cells .ensures)
 
 same-length : tie.Need-same-length
 same-length c = search needs
@@ -23,13 +23,13 @@ same-length-4 : tie.Need-same-length-4
 same-length-4 c = search needs
 
 returns : tie.Need-returns
-returns c = spread-ends (c .before .before .before .before .before .before .before .before .before .before .before .before .before .before .before .before .before .before .before .before .before .before .before .before .before .before .before .before .before .before .before .before .before .pre) (c .before .before .before .before .before .before .before .before .before .before .before .before .before .before .before .before .before .before .before .before .before .begin .ensures) (c .before .before .before .before .before .before .before .before .run .ensures)
+returns c = spread-ends (c .before .before .before .before .before .before .before .before .before .before .before .before .before .before .before .before .before .before .before .before .before .before .before .before .before .before .before .before .before .before .before .before .before .before .pre) (c .before .before .before .before .before .before .before .before .before .before .before .before .before .before .before .before .before .before .before .before .before .begin-cells .ensures) (c .before .before .before .before .before .before .before .before .run .ensures)
 
 pub spread-spec : {M : Type 1} → statement M
 spread-spec =
     tie.close
     (tie.spec
-    begin-requires
+    begin-cells-requires
     run-requires
     same-length
     same-length-2

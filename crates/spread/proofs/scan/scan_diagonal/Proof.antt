@@ -2,7 +2,7 @@
 use mathlib.Core.Path.{_≡_}
 use Prim.Native.Nat.{_≤_, _-_}
 use native.Mathlib.Omega.{arith}
-use Rattle.spread.specs.Steps.{diagonal-steps}
+use Rattle.spread.specs.Steps.{terrain, diagonal-steps}
 use Rattle.spread.specs.Buffers.{buffers, scanning, Does}
 use Rattle.spread.specs.Loop.{left-label}
 use Rattle.spread.proofs.Lengths.{same-distances, same-carried, same-marks, same-queue}
@@ -11,36 +11,36 @@ use Rattle.spread.proofs.scan.scan_diagonal.Statement.{statement}
 use Rattle.spread.proofs.scan.scan_diagonal.Tie as tie
 
 abbrev Inv-loop : tie.InvT-loop
-Inv-loop search obstacles left cells start end distances₀ carried₀ marks₀ queue₀ waiting₀ k₀ distances carried marks queue waiting k =
+Inv-loop search obstacles times left cells start end distances₀ carried₀ marks₀ queue₀ waiting₀ k₀ distances carried marks queue waiting k =
     (start ≤ k) × (k ≤ end)
-    × Does search (scanning (left-label search left) (diagonal-steps search obstacles (left .cell) (part cells start k)))
+    × Does search (scanning (left-label search left) (diagonal-steps search (terrain obstacles times) (left .cell) (part cells start k)))
     (buffers distances₀ carried₀ marks₀ queue₀ waiting₀) (buffers distances carried marks queue waiting)
 
 abbrev μ-loop : tie.MeasureT-loop
-μ-loop search obstacles left cells start end distances₀ carried₀ marks₀ queue₀ waiting₀ k₀ distances carried marks queue waiting k =
+μ-loop search obstacles times left cells start end distances₀ carried₀ marks₀ queue₀ waiting₀ k₀ distances carried marks queue waiting k =
     end - k
 
 loop-holds : tie.Need-loop-holds Inv-loop μ-loop
-loop-holds c = let start = c .before .before .before .before .before in
+loop-holds c = let start = c .before .before .before .before .before .before in
     let in-order = start .pre .start-most in
-    (omega arith, omega arith, diagonal-begun (start .args .search) (start .args .obstacles .now) (start .args .left) (start .args .cells .now) (start .args .start) (start .pre .good))
+    (omega arith, omega arith, diagonal-begun (start .args .search) (terrain (start .args .obstacles .now) (start .args .times .now)) (start .args .left) (start .args .cells .now) (start .args .start) (start .pre .good))
 
 mul-try-diagonal : tie.Need-mul-try-diagonal Inv-loop μ-loop
 mul-try-diagonal c = let below = c .loop-test .taken in
-    let most = c .before .before .before .before .before .before .before .pre .end-most in
+    let most = c .before .before .before .before .before .before .before .before .pre .end-most in
     omega arith
 
 element-copy-out-try-diagonal : tie.Need-element-copy-out-try-diagonal Inv-loop μ-loop
 element-copy-out-try-diagonal c = let below = c .loop-test .taken in
-    let most = c .before .before .before .before .before .before .before .pre .end-most in
+    let most = c .before .before .before .before .before .before .before .before .pre .end-most in
     omega arith
 
 try-diagonal-requires : tie.Need-try-diagonal-requires Inv-loop μ-loop
-try-diagonal-requires c κs = entering-at (c .before .before .before .before .before .before .before .before .before .before .before .before .pre) (c .before .before .before .before .before .before .loop .inv .2 .good) (c .before .before .before .before .before .before .loop .k)
+try-diagonal-requires c κs = entering-at (c .before .before .before .before .before .before .before .before .before .before .before .before .before .pre) (c .before .before .before .before .before .before .loop .inv .2 .good) (c .before .before .before .before .before .before .loop .k)
 
 add-k : tie.Need-add-k Inv-loop μ-loop
 add-k c = let below = c .before .before .before .before .before .before .before .before .before .before .before .before .before .before .loop-test .taken in
-    let most = c .before .before .before .before .before .before .before .before .before .before .before .before .before .before .before .before .before .before .before .before .before .pre .end-most in
+    let most = c .before .before .before .before .before .before .before .before .before .before .before .before .before .before .before .before .before .before .before .before .before .before .pre .end-most in
     omega arith
 
 loop-less : tie.Need-loop-less Inv-loop μ-loop
@@ -48,28 +48,28 @@ loop-less c = let below = c .before .before .before .before .before .before .bef
     omega arith
 
 loop-again : tie.Need-loop-again Inv-loop μ-loop
-loop-again c = let start = c .before .before .before .before .before .before .before .before .before .before .before .before .before .before .before .before .before .before .before .before .before in
+loop-again c = let start = c .before .before .before .before .before .before .before .before .before .before .before .before .before .before .before .before .before .before .before .before .before .before in
     let at = c .before .before .before .before .before .before .before .before .before .before .before .before .before .before .before .loop in
     let below = c .before .before .before .before .before .before .before .before .before .before .before .before .before .before .loop-test .taken in
     let most = start .pre .end-most in
     let eight = start .pre .eight in
     let from = at .inv .0 in
-    (omega arith, omega arith, diagonal-on (start .args .search) (start .args .obstacles .now) (start .args .left) (start .args .cells .now) (start .args .start) (at .k) from (omega arith) (at .inv .2) (c .before .before .before .before .before .before .before .before .try-diagonal .ensures))
+    (omega arith, omega arith, diagonal-on (start .args .search) (terrain (start .args .obstacles .now) (start .args .times .now)) (start .args .left) (start .args .cells .now) (start .args .start) (at .k) from (omega arith) (at .inv .2) (c .before .before .before .before .before .before .before .before .try-diagonal .ensures))
 
 same-length : tie.Need-same-length Inv-loop μ-loop
-same-length c = same-distances (c .before .before .before .before .before .before .before .pre .good) (c .before .loop .inv .2 .good)
+same-length c = same-distances (c .before .before .before .before .before .before .before .before .pre .good) (c .before .loop .inv .2 .good)
 
 same-length-2 : tie.Need-same-length-2 Inv-loop μ-loop
-same-length-2 c = same-carried (c .before .before .before .before .before .before .before .pre .good) (c .before .loop .inv .2 .good) (c .before .loop .inv .2 .kept)
+same-length-2 c = same-carried (c .before .before .before .before .before .before .before .before .pre .good) (c .before .loop .inv .2 .good) (c .before .loop .inv .2 .kept)
 
 same-length-3 : tie.Need-same-length-3 Inv-loop μ-loop
-same-length-3 c = same-marks (c .before .before .before .before .before .before .before .pre .good) (c .before .loop .inv .2 .good)
+same-length-3 c = same-marks (c .before .before .before .before .before .before .before .before .pre .good) (c .before .loop .inv .2 .good)
 
 same-length-4 : tie.Need-same-length-4 Inv-loop μ-loop
-same-length-4 c = same-queue (c .before .before .before .before .before .before .before .pre .good) (c .before .loop .inv .2 .good)
+same-length-4 c = same-queue (c .before .before .before .before .before .before .before .before .pre .good) (c .before .loop .inv .2 .good)
 
 returns : tie.Need-returns Inv-loop μ-loop
-returns c = let start = c .before .before .before .before .before .before .before in
+returns c = let start = c .before .before .before .before .before .before .before .before in
     let at = c .before .loop in
     let most = at .inv .1 in
     let past = c .loop-test .left in

@@ -1,4 +1,5 @@
 -- `scan::try_diagonal` meets its contract. Assumes nothing.
+use Rattle.spread.specs.Steps.{terrain}
 use Rattle.spread.proofs.Scans.{diagonal-tried, diagonal-refused}
 use borrow.Author.Needs.{needs}
 use Rattle.spread.proofs.scan.try_diagonal.Statement.{statement}
@@ -23,12 +24,12 @@ same-length-4 : tie.Need-same-length-4
 same-length-4 c = search needs
 
 returns : tie.Need-returns
-returns c = let start = c .before .before .before .before .before .before .before .before .before .before .before .before .before .before .before .before .before .before .before .before .before in
-    diagonal-tried (start .args .search) (start .args .obstacles .now) (start .args .left) (start .args .cell) (c .before .before .before .before .before .before .before .before .before .before .before .before .before .before .may-diagonal .ensures) (c .before .before .before .before .before .before .before .before .before .before .before .before .before .if1 .taken) (c .before .before .before .before .before .before .before .before .relax .ensures)
+returns c = let start = c .before .before .before .before .before .before .before .before .before .before .before .before .before .before .before .before .before .before .before .before .before .before in
+    diagonal-tried (start .args .search) (terrain (start .args .obstacles .now) (start .args .times .now)) (start .args .left) (start .args .cell) (c .before .before .before .before .before .before .before .before .before .before .before .before .before .before .may-diagonal .ensures) (c .before .before .before .before .before .before .before .before .before .before .before .before .before .if1 .taken) (c .before .before .before .before .before .before .before .before .relax .ensures)
 
 returns-2 : tie.Need-returns-2
-returns-2 c = let start = c .before .before .before .before .before .before .before .before in
-    diagonal-refused (start .args .search) (start .args .obstacles .now) (start .args .left) (start .args .cell) (c .before .may-diagonal .ensures) (c .if1 .left) (start .pre .good)
+returns-2 c = let start = c .before .before .before .before .before .before .before .before .before in
+    diagonal-refused (start .args .search) (terrain (start .args .obstacles .now) (start .args .times .now)) (start .args .left) (start .args .cell) (c .before .may-diagonal .ensures) (c .if1 .left) (start .pre .good)
 
 pub try-diagonal-spec : {M : Type 1} → statement M
 try-diagonal-spec =

@@ -19,6 +19,18 @@ is-blocked-requires c κs = among-obstacles (c .before .before .before .rule .gi
 enum-told-2 : tie.Need-enum-told-2
 enum-told-2 c = search needs
 
+enum-told-3 : tie.Need-enum-told-3
+enum-told-3 c = search needs
+
+enum-told-4 : tie.Need-enum-told-4
+enum-told-4 c = search needs
+
+enum-told-5 : tie.Need-enum-told-5
+enum-told-5 c = search needs
+
+enum-told-6 : tie.Need-enum-told-6
+enum-told-6 c = search needs
+
 returns : tie.Need-returns
 returns c = search needs
 
@@ -31,6 +43,18 @@ returns-3 c = closed-refused (c .before .before .before .rule .given .1) (c .bef
 returns-4 : tie.Need-returns-4
 returns-4 c = search needs
 
+returns-5 : tie.Need-returns-5
+returns-5 c = search needs
+
+returns-6 : tie.Need-returns-6
+returns-6 c = search needs
+
+returns-7 : tie.Need-returns-7
+returns-7 c = search needs
+
+returns-8 : tie.Need-returns-8
+returns-8 c = search needs
+
 pub may-diagonal-spec : {M : Type 1} → statement M
 may-diagonal-spec =
     tie.close
@@ -40,7 +64,15 @@ may-diagonal-spec =
     is-free-requires
     is-blocked-requires
     enum-told-2
+    enum-told-3
+    enum-told-4
+    enum-told-5
+    enum-told-6
     returns
     returns-2
     returns-3
-    returns-4)
+    returns-4
+    returns-5
+    returns-6
+    returns-7
+    returns-8)

@@ -5,16 +5,16 @@ use Rattle.spread.proofs.take.take_cell.Statement.{statement}
 use Rattle.spread.proofs.take.take_cell.Tie as tie
 
 take-first-requires : tie.Need-take-first-requires
-take-first-requires c κs = some-wait (c .before .before .before .before .before .before .before .pre)
+take-first-requires c κs = some-wait (c .before .before .before .before .before .before .before .before .pre)
 
 leave-requires : tie.Need-leave-requires
-leave-requires c κs = can-leave (c .before .before .before .before .before .before .before .before .before .before .before .before .before .pre) (c .before .before .before .before .before .take-first .ensures)
+leave-requires c κs = can-leave (c .before .before .before .before .before .before .before .before .before .before .before .before .before .before .pre) (c .before .before .before .before .before .take-first .ensures)
 
 neighbours-of-requires : tie.Need-neighbours-of-requires
 neighbours-of-requires c κs = search needs
 
 scan-by-rule-requires : tie.Need-scan-by-rule-requires
-scan-by-rule-requires c κs = scans (c .before .before .before .before .before .before .before .before .before .before .before .before .before .before .before .before .before .before .before .before .before .pre) (c .before .before .before .before .before .before .before .before .before .before .before .before .before .take-first .ensures) (c .before .before .before .before .before .before .before .leave .ensures) (c .before .before .before .before .before .before .neighbours-of .ensures)
+scan-by-rule-requires c κs = scans (c .before .before .before .before .before .before .before .before .before .before .before .before .before .before .before .before .before .before .before .before .before .before .pre) (c .before .before .before .before .before .before .before .before .before .before .before .before .before .take-first .ensures) (c .before .before .before .before .before .before .before .leave .ensures) (c .before .before .before .before .before .before .neighbours-of .ensures)
 
 same-length : tie.Need-same-length
 same-length c = search needs
@@ -29,7 +29,7 @@ same-length-4 : tie.Need-same-length-4
 same-length-4 c = search needs
 
 returns : tie.Need-returns
-returns c = took-cell (c .before .before .before .before .before .before .before .before .before .before .before .before .before .before .before .before .before .before .before .before .before .before .before .before .before .before .before .before .before .before .pre) (c .before .before .before .before .before .before .before .before .before .before .before .before .before .before .before .before .before .before .before .before .before .before .take-first .ensures) (c .before .before .before .before .before .before .before .before .before .before .before .before .before .before .before .before .leave .ensures) (c .before .before .before .before .before .before .before .before .before .before .before .before .before .before .before .neighbours-of .ensures) (c .before .before .before .before .before .before .before .before .scan-by-rule .ensures)
+returns c = took-cell (c .before .before .before .before .before .before .before .before .before .before .before .before .before .before .before .before .before .before .before .before .before .before .before .before .before .before .before .before .before .before .before .pre) (c .before .before .before .before .before .before .before .before .before .before .before .before .before .before .before .before .before .before .before .before .before .before .take-first .ensures) (c .before .before .before .before .before .before .before .before .before .before .before .before .before .before .before .before .leave .ensures) (c .before .before .before .before .before .before .before .before .before .before .before .before .before .before .before .neighbours-of .ensures) (c .before .before .before .before .before .before .before .before .scan-by-rule .ensures)
 
 pub take-cell-spec : {M : Type 1} → statement M
 take-cell-spec =

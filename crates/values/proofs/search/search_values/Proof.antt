@@ -38,7 +38,7 @@ returns c =
     let zeroed-floats = zeroed-bytes .before .before .before .before in
     let settled = zeroed-floats .before .before .before .before in
     let found = settled .before .before .before .before .before .before .before .before .before .before in
-    let start = found .before .before .before .before .before .before .before .before .before .before .before in
+    let start = found .before .before .before .before .before .before .before .before .before .before .before .before in
     searched-promised (start .pre) (found .spread .ensures) (settled .settle .ensures) (zeroed-floats .zero-floats .ensures)
     (zeroed-bytes .zero-bytes .ensures) (zeroed-cells .zero-cells .ensures)
 

@@ -1,0 +1,214 @@
+-- `scan_all::scan_by_rule` meets its contract: in each arm the search is the same with its rule written out. Assumes nothing.
+use Rattle.spread.specs.Steps.{terrain}
+use Rattle.spread.proofs.Taking.{scanning-as, scanned-as}
+use borrow.Author.Needs.{needs}
+use Rattle.spread.proofs.scan_all.scan_by_rule.Statement.{statement}
+use Rattle.spread.proofs.scan_all.scan_by_rule.Tie as tie
+
+enum-told : tie.Need-enum-told
+enum-told c = search needs
+
+scan-requires : tie.Need-scan-requires
+scan-requires c κs = scanning-as (c .before .before .before .before .enum-told .given .1) (c .before .before .before .before .before .before .before .before .before .before .before .before .before .pre)
+
+enum-known-rule : tie.Need-enum-known-rule
+enum-known-rule c = search needs
+
+scan-requires-2 : tie.Need-scan-requires-2
+scan-requires-2 c κs = scanning-as (c .before .before .before .before .before .rule .given .1) (c .before .before .before .before .before .before .before .before .before .before .before .before .before .before .pre)
+
+enum-told-2 : tie.Need-enum-told-2
+enum-told-2 c = search needs
+
+scan-requires-3 : tie.Need-scan-requires-3
+scan-requires-3 c κs = scanning-as (c .before .before .before .before .enum-told2 .given .1) (c .before .before .before .before .before .before .before .before .before .before .before .before .before .pre)
+
+enum-told-3 : tie.Need-enum-told-3
+enum-told-3 c = search needs
+
+scan-requires-4 : tie.Need-scan-requires-4
+scan-requires-4 c κs = scanning-as (c .before .before .before .before .enum-told3 .given .1) (c .before .before .before .before .before .before .before .before .before .before .before .before .before .pre)
+
+enum-told-4 : tie.Need-enum-told-4
+enum-told-4 c = search needs
+
+scan-requires-5 : tie.Need-scan-requires-5
+scan-requires-5 c κs = scanning-as (c .before .before .before .before .enum-told4 .given .1) (c .before .before .before .before .before .before .before .before .before .before .before .before .before .pre)
+
+enum-known-rule-2 : tie.Need-enum-known-rule-2
+enum-known-rule-2 c = search needs
+
+scan-requires-6 : tie.Need-scan-requires-6
+scan-requires-6 c κs = scanning-as (c .before .before .before .before .before .rule2 .given .1) (c .before .before .before .before .before .before .before .before .before .before .before .before .before .before .pre)
+
+enum-known-rule-3 : tie.Need-enum-known-rule-3
+enum-known-rule-3 c = search needs
+
+scan-requires-7 : tie.Need-scan-requires-7
+scan-requires-7 c κs = scanning-as (c .before .before .before .before .before .rule3 .given .1) (c .before .before .before .before .before .before .before .before .before .before .before .before .before .before .pre)
+
+same-length : tie.Need-same-length
+same-length c = search needs
+
+same-length-2 : tie.Need-same-length-2
+same-length-2 c = search needs
+
+same-length-3 : tie.Need-same-length-3
+same-length-3 c = search needs
+
+same-length-4 : tie.Need-same-length-4
+same-length-4 c = search needs
+
+returns : tie.Need-returns
+returns c = let start = c .before .before .before .before .before .before .before .before .before .before .before .before .before .before .before .before .before .before .before .before .before .before in
+    scanned-as (c .before .before .before .before .before .before .before .before .before .before .before .before .before .enum-told .given .1) (terrain (start .args .obstacles .now) (start .args .times .now)) (start .args .left) (start .args .cells .now) (start .args .straight) (start .args .count) (c .before .before .before .before .before .before .before .before .scan .ensures)
+
+same-length-5 : tie.Need-same-length-5
+same-length-5 c = search needs
+
+same-length-6 : tie.Need-same-length-6
+same-length-6 c = search needs
+
+same-length-7 : tie.Need-same-length-7
+same-length-7 c = search needs
+
+same-length-8 : tie.Need-same-length-8
+same-length-8 c = search needs
+
+returns-2 : tie.Need-returns-2
+returns-2 c = let start = c .before .before .before .before .before .before .before .before .before .before .before .before .before .before .before .before .before .before .before .before .before .before .before in
+    scanned-as (c .before .before .before .before .before .before .before .before .before .before .before .before .before .before .rule .given .1) (terrain (start .args .obstacles .now) (start .args .times .now)) (start .args .left) (start .args .cells .now) (start .args .straight) (start .args .count) (c .before .before .before .before .before .before .before .before .scan2 .ensures)
+
+same-length-9 : tie.Need-same-length-9
+same-length-9 c = search needs
+
+same-length-10 : tie.Need-same-length-10
+same-length-10 c = search needs
+
+same-length-11 : tie.Need-same-length-11
+same-length-11 c = search needs
+
+same-length-12 : tie.Need-same-length-12
+same-length-12 c = search needs
+
+returns-3 : tie.Need-returns-3
+returns-3 c = let start = c .before .before .before .before .before .before .before .before .before .before .before .before .before .before .before .before .before .before .before .before .before .before in
+    scanned-as (c .before .before .before .before .before .before .before .before .before .before .before .before .before .enum-told2 .given .1) (terrain (start .args .obstacles .now) (start .args .times .now)) (start .args .left) (start .args .cells .now) (start .args .straight) (start .args .count) (c .before .before .before .before .before .before .before .before .scan3 .ensures)
+
+same-length-13 : tie.Need-same-length-13
+same-length-13 c = search needs
+
+same-length-14 : tie.Need-same-length-14
+same-length-14 c = search needs
+
+same-length-15 : tie.Need-same-length-15
+same-length-15 c = search needs
+
+same-length-16 : tie.Need-same-length-16
+same-length-16 c = search needs
+
+returns-4 : tie.Need-returns-4
+returns-4 c = let start = c .before .before .before .before .before .before .before .before .before .before .before .before .before .before .before .before .before .before .before .before .before .before in
+    scanned-as (c .before .before .before .before .before .before .before .before .before .before .before .before .before .enum-told3 .given .1) (terrain (start .args .obstacles .now) (start .args .times .now)) (start .args .left) (start .args .cells .now) (start .args .straight) (start .args .count) (c .before .before .before .before .before .before .before .before .scan4 .ensures)
+
+same-length-17 : tie.Need-same-length-17
+same-length-17 c = search needs
+
+same-length-18 : tie.Need-same-length-18
+same-length-18 c = search needs
+
+same-length-19 : tie.Need-same-length-19
+same-length-19 c = search needs
+
+same-length-20 : tie.Need-same-length-20
+same-length-20 c = search needs
+
+returns-5 : tie.Need-returns-5
+returns-5 c = let start = c .before .before .before .before .before .before .before .before .before .before .before .before .before .before .before .before .before .before .before .before .before .before in
+    scanned-as (c .before .before .before .before .before .before .before .before .before .before .before .before .before .enum-told4 .given .1) (terrain (start .args .obstacles .now) (start .args .times .now)) (start .args .left) (start .args .cells .now) (start .args .straight) (start .args .count) (c .before .before .before .before .before .before .before .before .scan5 .ensures)
+
+same-length-21 : tie.Need-same-length-21
+same-length-21 c = search needs
+
+same-length-22 : tie.Need-same-length-22
+same-length-22 c = search needs
+
+same-length-23 : tie.Need-same-length-23
+same-length-23 c = search needs
+
+same-length-24 : tie.Need-same-length-24
+same-length-24 c = search needs
+
+returns-6 : tie.Need-returns-6
+returns-6 c = let start = c .before .before .before .before .before .before .before .before .before .before .before .before .before .before .before .before .before .before .before .before .before .before .before in
+    scanned-as (c .before .before .before .before .before .before .before .before .before .before .before .before .before .before .rule2 .given .1) (terrain (start .args .obstacles .now) (start .args .times .now)) (start .args .left) (start .args .cells .now) (start .args .straight) (start .args .count) (c .before .before .before .before .before .before .before .before .scan6 .ensures)
+
+same-length-25 : tie.Need-same-length-25
+same-length-25 c = search needs
+
+same-length-26 : tie.Need-same-length-26
+same-length-26 c = search needs
+
+same-length-27 : tie.Need-same-length-27
+same-length-27 c = search needs
+
+same-length-28 : tie.Need-same-length-28
+same-length-28 c = search needs
+
+returns-7 : tie.Need-returns-7
+returns-7 c = let start = c .before .before .before .before .before .before .before .before .before .before .before .before .before .before .before .before .before .before .before .before .before .before .before in
+    scanned-as (c .before .before .before .before .before .before .before .before .before .before .before .before .before .before .rule3 .given .1) (terrain (start .args .obstacles .now) (start .args .times .now)) (start .args .left) (start .args .cells .now) (start .args .straight) (start .args .count) (c .before .before .before .before .before .before .before .before .scan7 .ensures)
+
+pub scan-by-rule-spec : {M : Type 1} → statement M
+scan-by-rule-spec =
+    tie.close
+    (tie.spec
+    enum-told
+    scan-requires
+    enum-known-rule
+    scan-requires-2
+    enum-told-2
+    scan-requires-3
+    enum-told-3
+    scan-requires-4
+    enum-told-4
+    scan-requires-5
+    enum-known-rule-2
+    scan-requires-6
+    enum-known-rule-3
+    scan-requires-7
+    same-length
+    same-length-2
+    same-length-3
+    same-length-4
+    returns
+    same-length-5
+    same-length-6
+    same-length-7
+    same-length-8
+    returns-2
+    same-length-9
+    same-length-10
+    same-length-11
+    same-length-12
+    returns-3
+    same-length-13
+    same-length-14
+    same-length-15
+    same-length-16
+    returns-4
+    same-length-17
+    same-length-18
+    same-length-19
+    same-length-20
+    returns-5
+    same-length-21
+    same-length-22
+    same-length-23
+    same-length-24
+    returns-6
+    same-length-25
+    same-length-26
+    same-length-27
+    same-length-28
+    returns-7)

@@ -1,0 +1,63 @@
+// The candidate for a cell that is entered: each rule's formula, with one rounding for each operation.
+use crate::relax::Left;
+use crate::search::Rule;
+use crate::search::Search;
+use binary32::is_nodata;
+ghost use mathlib.Core.Path.{_≡_};
+ghost use mathlib.Core.Bool.{cond, not};
+ghost use lib.Ieee as Ieee;
+ghost use Rattle.binary32.specs.Nodata.{nodata};
+ghost use Rattle.binary32.specs.Numbers.{two};
+ghost use Rattle.rules.specs.Numbers as number;
+ghost use Rattle.spread.specs.Nets.{sized};
+ghost use Rattle.spread.specs.Steps.{formula, Timed};
+
+// A step of length s further from distance d.
+fn plus_step(d: f32, s: f32) -> f32
+    ensures { λ r. ⌜ r ≡ Ieee.add Ieee.binary32 d s ⌝ }
+{
+    d + s
+}
+
+// Half the step times the sum of both times, a of the cell that is left and b of the one that is entered.
+fn plus_half_sum(d: f32, s: f32, a: f32, b: f32) -> f32
+    ensures { λ r. ⌜ r ≡ Ieee.add Ieee.binary32 d (Ieee.mul Ieee.binary32 (Ieee.div Ieee.binary32 s two) (Ieee.add Ieee.binary32 a b)) ⌝ }
+{
+    d + (s / 2.0) * (a + b)
+}
+
+// The step times the time of the cell that is entered.
+fn plus_time(d: f32, s: f32, b: f32) -> f32
+    ensures { λ r. ⌜ r ≡ Ieee.add Ieee.binary32 d (Ieee.mul Ieee.binary32 s b) ⌝ }
+{
+    d + s * b
+}
+
+// The time, or the largest f32 divided by 4 where it is nodata.
+fn time_or_quarter(time: f32) -> f32
+    ensures { λ r. ⌜ r ≡ cond (not (nodata time)) time number.quarter-of-largest ⌝ }
+{
+    if is_nodata(time) {
+        return 3.4028235e38 / 4.0;
+    }
+    time
+}
+
+// The distance over a step from the cell that is left to another, by the rule's formula.
+pub fn candidate(search: Search, times: &[f32], left: Left, step: f32, cell: u32) -> f32
+    requires { ⌜ Timed search (now times) (left .cell) cell ⌝ }
+    ensures { λ r. ⌜ r ≡ formula (search .rule) (sized search (now (times .entry))) (left .cell) step cell (left .distance) ⌝ }
+{
+    let from = left.cell as usize;
+    let to = cell as usize;
+    let rule = search.rule;
+    match rule {
+        Rule::Plain => plus_step(left.distance, step),
+        Rule::Obstacles(_) => plus_step(left.distance, step),
+        Rule::HalfSum => plus_half_sum(left.distance, step, times[from], times[to]),
+        Rule::Closest => plus_step(left.distance, step),
+        Rule::ByTime => plus_time(left.distance, step, times[to]),
+        Rule::FromMaskCell(_) => plus_half_sum(left.distance, step, times[from], times[to]),
+        Rule::FromAmount(_) => plus_time(left.distance, step, time_or_quarter(times[to])),
+    }
+}
