@@ -17,6 +17,7 @@ use mir.Facts.{toZ-ofZ, and-yes, yes-and}
 use Rattle.rules.specs.declared.Size.{Size}
 use Rattle.rules.specs.Sizes.{count}
 use Rattle.rules.specs.Cells.{offsets, index, row-of, col-of, within}
+use Rattle.cells.specs.Storing.{Step, stay, on, back}
 use Rattle.cells.proofs.Bounds.{cells-max, Side, Bounded, read, side-read, cast-is, and-then, and-not, product-fits, product-read}
 
 -- ---- between the edges
@@ -50,12 +51,6 @@ module _ {end k : ℤ} (end-fits : SFits w32 end) (k-fits : SFits w32 k) where
 
 -- ---- a step of the table
 
--- An entry of the table: stay, go on, or go back.
-data Step : ℤ → Type 0 where
-  stay : Step (pos 0)
-  on : Step (pos 1)
-  back : Step (negsuc 0)
-
 -- The i-th offset's part for rows, and for columns. Past the table both stay.
 abbrev pub row-offset : ℕ → ℤ
 row-offset i = getD (getD offsets i []) 0 (pos 0)
@@ -63,7 +58,8 @@ row-offset i = getD (getD offsets i []) 0 (pos 0)
 abbrev pub col-offset : ℕ → ℤ
 col-offset i = getD (getD offsets i []) 1 (pos 0)
 
-steps : (i : ℕ) → Step (row-offset i) × Step (col-offset i)
+-- Each entry of the table is a step.
+pub steps : (i : ℕ) → Step (row-offset i) × Step (col-offset i)
 steps zero = (stay, on)
 steps (suc zero) = (stay, back)
 steps (suc (suc zero)) = (on, stay)
@@ -74,7 +70,7 @@ steps (suc (suc (suc (suc (suc (suc zero)))))) = (on, back)
 steps (suc (suc (suc (suc (suc (suc (suc zero))))))) = (back, back)
 steps (suc (suc (suc (suc (suc (suc (suc (suc i)))))))) = (stay, stay)
 
-step-read : {d : ℤ} → Step d → read d ≡ d
+pub step-read : {d : ℤ} → Step d → read d ≡ d
 step-read stay = refl
 step-read on = refl
 step-read back = refl
@@ -99,18 +95,12 @@ module _ {k d : ℤ} (k-side : Side k) (step : Step d) where
   moved-fits : SFits w32 (k +ℤ d)
   moved-fits = let most = k-side .most in rw (k-side .is-mag) (record { sfits = let small = step-small (mag k) step in omega arith })
 
-module _ {end k : ℤ} (end-side : Side end) (k-in : Inside end k) (i : ℕ) where
-  pub row-moved-fits : SFits w32 (read k +ℤ read (row-offset i))
-  row-moved-fits = rw (moved (small end-side k-in) (steps i .0)) (moved-fits (small end-side k-in) (steps i .0))
+module _ {end k d : ℤ} (end-side : Side end) (k-in : Inside end k) (step : Step d) where
+  pub step-fits : SFits w32 (read k +ℤ read d)
+  step-fits = rw (moved (small end-side k-in) step) (moved-fits (small end-side k-in) step)
 
-  pub row-moved : read (read k +ℤ read (row-offset i)) ≡ k +ℤ row-offset i
-  row-moved = toZ-ofZ row-moved-fits ∙ moved (small end-side k-in) (steps i .0)
-
-  pub col-moved-fits : SFits w32 (read k +ℤ read (col-offset i))
-  col-moved-fits = rw (moved (small end-side k-in) (steps i .1)) (moved-fits (small end-side k-in) (steps i .1))
-
-  pub col-moved : read (read k +ℤ read (col-offset i)) ≡ k +ℤ col-offset i
-  col-moved = toZ-ofZ col-moved-fits ∙ moved (small end-side k-in) (steps i .1)
+  pub stepped : read (read k +ℤ read d) ≡ k +ℤ d
+  stepped = toZ-ofZ step-fits ∙ moved (small end-side k-in) step
 
 -- ---- the index
 

@@ -133,12 +133,18 @@ module _ (size : Size) (u : ℕ) where
   pub neighbours-split : neighbours size u offsets ≡ straight-neighbours size u ++ diagonal-neighbours size u
   neighbours-split = neighbours-append (take 4 offsets) (drop 4 offsets)
 
-  pub one-more : (i : ℕ) → i < 8 → neighbours size u (take (i + 1) offsets) ≡ neighbours size u (take i offsets) ++ neighbour size u (getD offsets i [])
+  -- One offset more of a table adds the neighbour there.
+  pub one-more-of :
+      (table : List (List ℤ)) (i : ℕ) → i < length table
+      → neighbours size u (take (i + 1) table) ≡ neighbours size u (take i table) ++ neighbour size u (getD table i [])
   unfolding neighbours
-  one-more i less =
-      ap (λ (list : List (List ℤ)). neighbours size u list) (ap (λ (k : ℕ). take k offsets) (add-one i) ∙ take-suc offsets i [] less)
-      ∙ neighbours-append (take i offsets) (getD offsets i [] ∷ [])
-      ∙ ap (λ (l : List ℕ). neighbours size u (take i offsets) ++ l) (append-nil (neighbour size u (getD offsets i [])))
+  one-more-of table i less =
+      ap (λ (list : List (List ℤ)). neighbours size u list) (ap (λ (k : ℕ). take k table) (add-one i) ∙ take-suc table i [] less)
+      ∙ neighbours-append (take i table) (getD table i [] ∷ [])
+      ∙ ap (λ (l : List ℕ). neighbours size u (take i table) ++ l) (append-nil (neighbour size u (getD table i [])))
+
+  pub one-more : (i : ℕ) → i < 8 → neighbours size u (take (i + 1) offsets) ≡ neighbours size u (take i offsets) ++ neighbour size u (getD offsets i [])
+  one-more i less = one-more-of offsets i less
 
   pub at-most-one : (offset : List ℤ) → length (neighbour size u offset) ≤ 1
   unfolding neighbour

@@ -13,53 +13,55 @@ use mir.Val.{SFits, toZ}
 use Rattle.rules.specs.declared.Size.{Size}
 use Rattle.rules.specs.Cells.{offsets, index, row-of, col-of, within, neighbour}
 use Rattle.cells.specs.Neighbours.{CellOf}
-use Rattle.cells.specs.Storing.{InGrid, Stored}
+use Rattle.cells.specs.Storing.{InGrid, Step, Stepping, Neighbour, At, Outside, cells-at, Leads, Stored}
 use Rattle.cells.proofs.Bounds.{Bounded, bounded, passed, read, side-same}
-use Rattle.cells.proofs.Edges.{Inside, inside, row-cast, col-cast, row-between, col-between}
-use Rattle.cells.proofs.Edges.{row-offset, col-offset, row-moved, row-moved-fits, col-moved, col-moved-fits}
+use Rattle.cells.proofs.Edges.{Inside, inside, small, row-cast, col-cast, row-between, col-between}
+use Rattle.cells.proofs.Edges.{row-offset, col-offset, step-read, step-fits, stepped}
 
--- ---- the place at the i-th offset from a place in the grid
+-- ---- the place one step from a place in the grid
 
-module _ (size : Size) (row col : ℤ) (place : InGrid size row col) (i : ℕ) where
+module _ (size : Size) (row col : ℤ) {down across : ℤ} (from : Stepping size row col down across) where
   bounds : Bounded size
-  bounds = bounded size (place .bounds)
+  bounds = bounded size (from .place .bounds)
 
   row-in : Inside (size .rows) row
-  row-in = inside (size .rows) row (place .row-in)
+  row-in = inside (size .rows) row (from .place .row-in)
 
   col-in : Inside (size .cols) col
-  col-in = inside (size .cols) col (place .col-in)
+  col-in = inside (size .cols) col (from .place .col-in)
 
-  pub to-row-fits : SFits w32 (read row +ℤ read (row-offset i))
-  to-row-fits = row-moved-fits (bounds .rows-side) row-in i
+  pub to-row-fits : SFits w32 (read row +ℤ read down)
+  to-row-fits = step-fits (bounds .rows-side) row-in (from .row-step)
 
-  pub to-col-fits : SFits w32 (read col +ℤ read (col-offset i))
-  to-col-fits = col-moved-fits (bounds .cols-side) col-in i
+  pub to-col-fits : SFits w32 (read col +ℤ read across)
+  to-col-fits = step-fits (bounds .cols-side) col-in (from .col-step)
+
+  to-row : read (read row +ℤ read down) ≡ row +ℤ down
+  to-row = stepped (bounds .rows-side) row-in (from .row-step)
+
+  to-col : read (read col +ℤ read across) ≡ col +ℤ across
+  to-col = stepped (bounds .cols-side) col-in (from .col-step)
 
   -- What the two tests answer, said of the place itself.
   pub row-tested :
-      {answer tested : Bool} → answer ≡ within (read (size .rows)) (read (read row +ℤ read (row-offset i)))
-      → answer ≡ tested → within (size .rows) (row +ℤ row-offset i) ≡ tested
-  row-tested means e = rw (← row-moved (bounds .rows-side) row-in i, ← side-same (bounds .rows-side)) (sym means ∙ e)
+      {answer tested : Bool} → answer ≡ within (read (size .rows)) (read (read row +ℤ read down))
+      → answer ≡ tested → within (size .rows) (row +ℤ down) ≡ tested
+  row-tested means e = rw (← to-row, ← side-same (bounds .rows-side)) (sym means ∙ e)
 
   pub col-tested :
-      {answer tested : Bool} → answer ≡ within (read (size .cols)) (read (read col +ℤ read (col-offset i)))
-      → answer ≡ tested → within (size .cols) (col +ℤ col-offset i) ≡ tested
-  col-tested means e = rw (← col-moved (bounds .cols-side) col-in i, ← side-same (bounds .cols-side)) (sym means ∙ e)
+      {answer tested : Bool} → answer ≡ within (read (size .cols)) (read (read col +ℤ read across))
+      → answer ≡ tested → within (size .cols) (col +ℤ across) ≡ tested
+  col-tested means e = rw (← to-col, ← side-same (bounds .cols-side)) (sym means ∙ e)
 
-  module _ (row-here : within (size .rows) (row +ℤ row-offset i) ≡ true) (col-here : within (size .cols) (col +ℤ col-offset i) ≡ true) where
-    pub moved-in-grid : InGrid size (read (read row +ℤ read (row-offset i))) (read (read col +ℤ read (col-offset i)))
-    moved-in-grid =
-        record {
-          bounds = place .bounds;
-          row-in = rw (row-moved (bounds .rows-side) row-in i) (passed row-here);
-          col-in = rw (col-moved (bounds .cols-side) col-in i) (passed col-here);
-        }
+  pub stepped-in-grid :
+      within (size .rows) (row +ℤ down) ≡ true → within (size .cols) (col +ℤ across) ≡ true
+      → InGrid size (read (read row +ℤ read down)) (read (read col +ℤ read across))
+  stepped-in-grid row-here col-here = record { bounds = from .place .bounds; row-in = rw to-row (passed row-here); col-in = rw to-col (passed col-here) }
 
-  pub moved-index :
-      {cell : ℕ} → cell ≡ index size (mag (read (read row +ℤ read (row-offset i)))) (mag (read (read col +ℤ read (col-offset i))))
-      → cell ≡ index size (mag (row +ℤ row-offset i)) (mag (col +ℤ col-offset i))
-  moved-index means = rw (← row-moved (bounds .rows-side) row-in i, ← col-moved (bounds .cols-side) col-in i) means
+  pub stepped-index :
+      {cell : ℕ} → cell ≡ index size (mag (read (read row +ℤ read down))) (mag (read (read col +ℤ read across)))
+      → cell ≡ index size (mag (row +ℤ down)) (mag (col +ℤ across))
+  stepped-index means = rw (← to-row, ← to-col) means
 
 -- A cell's own row and column, as the code has them, are in the grid.
 pub cell-in-grid : (size : Size) (u : ℕ) → CellOf size u → InGrid size (toZ w32 (u / natAbs (read (size .cols)))) (toZ w32 (u % natAbs (read (size .cols))))
@@ -71,41 +73,74 @@ cell-in-grid size u cell =
       col-in = rw (col-cast size bounds u (cell .below)) (col-between size bounds u (cell .below));
     }
 
--- ---- what is stored
+-- ---- where a step leads
 
 -- The neighbour at an offset, by the row and the column of the cell.
 neighbour-at :
-    (size : Size) (u : ℕ) (offset : List ℤ) {row col : ℤ} → row ≡ pos (row-of size u) → col ≡ pos (col-of size u)
-    → neighbour size u offset
-    ≡ cond (within (size .rows) (row +ℤ getD offset 0 (pos 0)) && within (size .cols) (col +ℤ getD offset 1 (pos 0)))
-    (index size (mag (row +ℤ getD offset 0 (pos 0))) (mag (col +ℤ getD offset 1 (pos 0))) ∷ []) []
+    (size : Size) (u : ℕ) {row col : ℤ} (down across : ℤ) → row ≡ pos (row-of size u) → col ≡ pos (col-of size u)
+    → neighbour size u (down ∷ across ∷ [])
+    ≡ cond (within (size .rows) (row +ℤ down) && within (size .cols) (col +ℤ across)) (index size (mag (row +ℤ down)) (mag (col +ℤ across)) ∷ []) []
 unfolding neighbour
-neighbour-at size u offset row-is col-is = rw (row-is, col-is)
+neighbour-at size u down across row-is col-is = rw (row-is, col-is)
 
-module _ (size : Size) (row col : ℤ) (i : ℕ) (cells : List ℕ) (found : ℕ) where
-  -- What the neighbour at the offset is, of whatever cell has that row and that column.
-  abbrev AtOffset : List ℕ → Type 0
-  AtOffset there = (u : ℕ) → row ≡ pos (row-of size u) → col ≡ pos (col-of size u) → neighbour size u (getD offsets i []) ≡ there
+module _ (size : Size) (row col down across : ℤ) where
+  leads-nowhere : (within (size .rows) (row +ℤ down) && within (size .cols) (col +ℤ across)) ≡ false → Leads size row col down across Outside
+  leads-nowhere outside = record { leads = λ u r c. sym (neighbour-at size u down across r c ∙ rw outside refl) }
 
-  stored-as : (there : List ℕ) → AtOffset there → Stored size row col i cells found (sets cells found there) (found + length there)
-  stored-as there is = record { stored = λ u r c. rw (is u r c); counted = λ u r c. rw (is u r c) }
+  -- Outside the grid there is no neighbour.
+  pub row-outside : within (size .rows) (row +ℤ down) ≡ false → Leads size row col down across Outside
+  row-outside outside = leads-nowhere (rw outside)
 
-  -- Outside the grid there is no neighbour, and nothing is stored.
-  stored-none : (within (size .rows) (row +ℤ row-offset i) && within (size .cols) (col +ℤ col-offset i)) ≡ false → Stored size row col i cells found cells found
-  stored-none outside =
-      let none : AtOffset [] = λ u r c. neighbour-at size u (getD offsets i []) r c ∙ rw outside refl in
-      rw add-zero at (stored-as [] none)
+  pub col-outside : within (size .rows) (row +ℤ down) ≡ true → within (size .cols) (col +ℤ across) ≡ false → Leads size row col down across Outside
+  col-outside row-here outside = leads-nowhere (rw (row-here, outside))
 
-  pub row-outside : within (size .rows) (row +ℤ row-offset i) ≡ false → Stored size row col i cells found cells found
-  row-outside outside = stored-none (rw outside)
+  -- In the grid there is one.
+  pub leads-to :
+      within (size .rows) (row +ℤ down) ≡ true → within (size .cols) (col +ℤ across) ≡ true
+      → {cell : ℕ} → cell ≡ index size (mag (row +ℤ down)) (mag (col +ℤ across)) → Leads size row col down across (At cell)
+  leads-to row-here col-here {cell} cell-is = record { leads = λ u r c. sym (neighbour-at size u down across r c ∙ rw (row-here, col-here, cell-is) refl) }
 
-  pub col-outside : within (size .rows) (row +ℤ row-offset i) ≡ true → within (size .cols) (col +ℤ col-offset i) ≡ false → Stored size row col i cells found cells found
-  col-outside row-here outside = stored-none (rw (row-here, outside))
+-- A place that the code reads back from its bits is the same place.
+module _ {size : Size} {row col : ℤ} (place : InGrid size row col) where
+  row-read : read row ≡ row
+  row-read = side-same (small (bounded size (place .bounds) .rows-side) (inside (size .rows) row (place .row-in)))
 
-  -- In the grid there is one neighbour, which is stored at the first free entry.
-  pub stored-one :
-      within (size .rows) (row +ℤ row-offset i) ≡ true → within (size .cols) (col +ℤ col-offset i) ≡ true
-      → {cell : ℕ} → cell ≡ index size (mag (row +ℤ row-offset i)) (mag (col +ℤ col-offset i)) → Stored size row col i cells found (set cells found cell) (found + 1)
-  stored-one row-here col-here {cell} cell-is =
-      let one : AtOffset (cell ∷ []) = λ u r c. neighbour-at size u (getD offsets i []) r c ∙ rw (row-here, col-here, cell-is) refl in
-      stored-as (cell ∷ []) one
+  col-read : read col ≡ col
+  col-read = side-same (small (bounded size (place .bounds) .cols-side) (inside (size .cols) col (place .col-in)))
+
+  pub place-read : InGrid size (read row) (read col)
+  place-read = rw (row-read, col-read) place
+
+  pub leads-from-place : {down across : ℤ} {there : Neighbour} → Leads size (read row) (read col) down across there → Leads size row col down across there
+  leads-from-place to = rw (row-read, col-read) at to
+
+-- A step that the code reads back from its bits is the same step.
+module _ {down across : ℤ} (row-step : Step down) (col-step : Step across) where
+  pub stepping-read : {size : Size} {row col : ℤ} → InGrid size row col → Stepping size row col (read down) (read across)
+  stepping-read place = rw (step-read row-step, step-read col-step) (record { place = place; row-step = row-step; col-step = col-step })
+
+  pub leads-by-step : {size : Size} {row col : ℤ} {there : Neighbour} → Leads size row col (read down) (read across) there → Leads size row col down across there
+  leads-by-step to = rw (step-read row-step, step-read col-step) at to
+
+-- ---- what is stored
+
+-- To the rules an offset is its two parts.
+neighbour-parts : (size : Size) (u : ℕ) (offset : List ℤ) → neighbour size u (getD offset 0 (pos 0) ∷ getD offset 1 (pos 0) ∷ []) ≡ neighbour size u offset
+unfolding neighbour
+neighbour-parts size u offset = refl
+
+pub leads-at :
+    {size : Size} {row col : ℤ} (offset : List ℤ) {there : Neighbour} → Leads size row col (getD offset 0 (pos 0)) (getD offset 1 (pos 0)) there
+    → (u : ℕ) → row ≡ pos (row-of size u) → col ≡ pos (col-of size u) → cells-at there ≡ neighbour size u offset
+leads-at {size} offset to u row-is col-is = to .leads u row-is col-is ∙ neighbour-parts size u offset
+
+module _ {size : Size} {row col : ℤ} (i : ℕ) {there : Neighbour} (to : Leads size row col (row-offset i) (col-offset i) there) (cells : List ℕ) (found : ℕ) where
+  stored-as : Stored size row col i cells found (sets cells found (cells-at there)) (found + length (cells-at there))
+  stored-as = record { stored = λ u r c. rw (leads-at (getD offsets i []) to u r c); counted = λ u r c. rw (leads-at (getD offsets i []) to u r c) }
+
+  -- Where there is a neighbour, it is stored at the first free entry; where there is none, nothing is stored.
+  pub stored-one : {cell : ℕ} → there ≡ At cell → Stored size row col i cells found (set cells found cell) (found + 1)
+  stored-one is = rw is at stored-as
+
+  pub stored-none : there ≡ Outside → Stored size row col i cells found cells found
+  stored-none is = rw add-zero at (rw is at stored-as)

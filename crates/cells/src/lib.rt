@@ -2,15 +2,17 @@
 //
 // The crate promises that a size is judged by the bounds (`in_bounds`, `same_size`, `cell_count`), that
 // a cell's neighbours are those that the table of offsets leads to inside the grid, in its order
-// (`neighbours_of`), and that the ring serves cells in the order in which they came (`push`, `take`).
+// (`neighbours_of`; `neighbour_at` is the one at any single step), and that the ring serves cells in the order in which they came (`push`, `take`).
 // Its laws, for the crates above, are in proofs/: a neighbour is a cell of the grid and never the cell
 // itself, and what the ring's functions do to the list of the waiting cells.
 mod neighbours;
 mod ring;
 mod sizes;
 
+pub use neighbours::Neighbour;
 pub use neighbours::Neighbours;
 pub use neighbours::OFFSETS;
+pub use neighbours::neighbour_at;
 pub use neighbours::neighbours_of;
 pub use ring::Ring;
 pub use ring::Taken;

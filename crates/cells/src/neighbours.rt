@@ -4,7 +4,7 @@ ghost use mathlib.Core.Path.{_≡_};
 ghost use lib.Signed.{mag};
 ghost use Rattle.rules.specs.Cells as Cells;
 ghost use Rattle.cells.specs.Neighbours.{CellOf, Lists};
-ghost use Rattle.cells.specs.Storing.{InGrid, Storing, Stored};
+ghost use Rattle.cells.specs.Storing.{InGrid, Stepping, Leads, Storing, Stored};
 
 // The offsets of the neighbours, row and column each, in the order in which they are tried.
 pub const OFFSETS: [[i32; 2]; 8] = [
@@ -42,8 +42,31 @@ fn index(size: Size, row: i32, col: i32) -> u32
     (row * size.cols + col) as u32
 }
 
+// What stands at an offset from a cell: another cell, or nothing where the grid ends.
+pub enum Neighbour {
+    At(u32),
+    Outside,
+}
+
+// The neighbour one step from a row and a column. Both edges are tested before the row and the column
+// become an index.
+pub fn neighbour_at(size: Size, row: i32, col: i32, down: i32, across: i32) -> Neighbour
+    requires { ⌜ Stepping size row col down across ⌝ }
+    ensures { λ r. ⌜ Leads size row col down across r ⌝ }
+{
+    let to_row = row + down;
+    let to_col = col + across;
+    if !inside(size.rows, to_row) {
+        return Neighbour::Outside;
+    }
+    if !inside(size.cols, to_col) {
+        return Neighbour::Outside;
+    }
+    Neighbour::At(index(size, to_row, to_col))
+}
+
 // Stores the neighbour at the i-th offset from a row and a column, where it is in the grid, behind
-// those that were found. Both edges are tested before the row and the column become an index.
+// those that were found.
 fn store_neighbour(
     cells: &mut [u32; 8],
     found: usize,
@@ -56,16 +79,14 @@ fn store_neighbour(
     ensures { λ r. ⌜ Stored size row col i (now (cells .entry)) found (now (cells .exit)) r ⌝ }
 {
     let offset = OFFSETS[i];
-    let to_row = row + offset[0];
-    let to_col = col + offset[1];
-    if !inside(size.rows, to_row) {
-        return found;
+    let there = neighbour_at(size, row, col, offset[0], offset[1]);
+    match there {
+        Neighbour::At(cell) => {
+            cells[found] = cell;
+            found + 1
+        }
+        Neighbour::Outside => found,
     }
-    if !inside(size.cols, to_col) {
-        return found;
-    }
-    cells[found] = index(size, to_row, to_col);
-    found + 1
 }
 
 // The neighbours of a cell.

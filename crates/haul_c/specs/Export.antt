@@ -1,4 +1,5 @@
 -- What an export writes and gives for what a search tells. Definitions only.
+use mathlib.Core.Bool.{Bool, true, false}
 use mathlib.Core.List.{List}
 use mathlib.Core.Path.{_≡_}
 use Prim.Native.Nat.{ℕ, zero, suc}
@@ -13,8 +14,9 @@ use Rattle.rules.specs.Sizes.{Refusal, number, number-at}
 use Rattle.calls.specs.declared.answer.Answer.{Answer}
 use Rattle.calls.specs.Answer.{Told, refusal, takes, told}
 use Rattle.calls.specs.Promise.{Slice}
-use Rattle.distances.specs.Promise.{DistancesUpTo, DistanceWithObstacles}
-use Rattle.values.specs.Promise.{ValueAtClosestTarget}
+use Rattle.distances.specs.Promise.{DistancesUpTo, DistanceWithObstacles, TravelDistancesUpTo}
+use Rattle.values.specs.Promise.{ValueAtClosestTarget, ValueAtClosestTravelTarget, ValueAtClosestLessThanTravelTarget}
+use Rattle.sums.specs.Promise.{SumTargetsWithinTravelDistance}
 
 -- 0, or the refusal's number.
 abbrev pub status : Told → ℕ
@@ -55,6 +57,11 @@ abbrev pub diagonals-of : ℕ → BarrierDiagonals
 diagonals-of zero = Include
 diagonals-of (suc k) = Exclude
 
+-- 0 is no, any other number yes.
+abbrev pub yes : ℕ → Bool
+yes zero = false
+yes (suc k) = true
+
 abbrev pub ExportedUpTo : ℤ → ℤ → List ℕ → Float → Float → Slice Float → Slice ℕ → Slice ℕ → ℕ → ℕ → ℕ → ℕ → ℕ → Type 0
 ExportedUpTo rows columns targets cell-size limit answer marks queue =
     Exported (DistancesUpTo (size rows columns) targets (spacing cell-size limit) answer marks queue)
@@ -63,6 +70,22 @@ abbrev pub ExportedObstacles : ℤ → ℤ → List ℕ → ℤ → ℤ → List
 ExportedObstacles rows columns targets obstacle-rows obstacle-columns obstacles cell-size diagonals answer marks queue =
     Exported (DistanceWithObstacles (size rows columns) targets (size obstacle-rows obstacle-columns) obstacles (spacing cell-size plus-zero) (diagonals-of diagonals) answer marks queue)
 
+abbrev pub ExportedTravelUpTo : ℤ → ℤ → List ℕ → ℤ → ℤ → List Float → Float → Slice Float → Slice ℕ → Slice ℕ → ℕ → ℕ → ℕ → ℕ → ℕ → Type 0
+ExportedTravelUpTo rows columns targets time-rows time-columns times limit answer marks queue =
+    Exported (TravelDistancesUpTo (size rows columns) targets (size time-rows time-columns) times limit answer marks queue)
+
 abbrev pub ExportedClosest : ℤ → ℤ → List ℕ → ℤ → ℤ → List Float → Slice Float → Slice Float → Slice ℕ → Slice ℕ → ℕ → ℕ → ℕ → ℕ → ℕ → Type 0
 ExportedClosest rows columns targets value-rows value-columns values answer distances marks queue =
     Exported (ValueAtClosestTarget (size rows columns) targets (size value-rows value-columns) values answer distances marks queue)
+
+abbrev pub ExportedClosestTravel : ℤ → ℤ → List ℕ → ℤ → ℤ → List Float → ℤ → ℤ → List Float → Slice Float → Slice Float → Slice ℕ → Slice ℕ → ℕ → ℕ → ℕ → ℕ → ℕ → Type 0
+ExportedClosestTravel rows columns targets time-rows time-columns times value-rows value-columns values answer distances marks queue =
+    Exported (ValueAtClosestTravelTarget (size rows columns) targets (size time-rows time-columns) times (size value-rows value-columns) values answer distances marks queue)
+
+abbrev pub ExportedClosestLessThan : ℤ → ℤ → List ℕ → ℤ → ℤ → List Float → ℤ → ℤ → List Float → Float → Slice Float → Slice Float → Slice ℕ → Slice ℕ → ℕ → ℕ → ℕ → ℕ → ℕ → Type 0
+ExportedClosestLessThan rows columns targets time-rows time-columns times value-rows value-columns values limit answer distances marks queue =
+    Exported (ValueAtClosestLessThanTravelTarget (size rows columns) targets (size time-rows time-columns) times (size value-rows value-columns) values limit answer distances marks queue)
+
+abbrev pub ExportedSumTargets : ℤ → ℤ → List Float → ℤ → ℤ → List Float → Float → Slice Float → Slice Float → Slice ℕ → Slice ℕ → Slice ℕ → ℕ → ℕ → ℕ → ℕ → ℕ → Type 0
+ExportedSumTargets rows columns times amount-rows amount-columns amounts limit answer distances marks added queue =
+    Exported (SumTargetsWithinTravelDistance (size rows columns) times (size amount-rows amount-columns) amounts limit answer distances marks added queue)

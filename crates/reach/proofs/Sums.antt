@@ -1,0 +1,37 @@
+-- Values that are added one after the other. Assumes nothing.
+use mathlib.Core.Bool.{Bool, true, false}
+use mathlib.Core.List.{List, [], _∷_, _++_, foldl-append}
+use mathlib.Core.Path.{_≡_, refl, sym, ap, _∙_}
+use Prim.Native.Nat.{ℕ, _+_, _<_}
+use lib.Ieee.{Float, nan, binary32, add}
+use lib.ListN.{length, getD, take}
+use Rattle.binary32.specs.Nodata.{nodata}
+use Rattle.reach.specs.Summing.{plus-value, plus-values}
+use Rattle.reach.proofs.Reading.{take-more}
+
+-- One cell: nodata is passed over.
+module _ (values : List Float) (sum : Float) (c : ℕ) {answer : Bool} (says : answer ≡ nodata (getD values c nan)) where
+  pub passed-over : answer ≡ true → sum ≡ plus-value values sum c
+  passed-over e = rw (sym says ∙ e)
+
+  pub value-added : answer ≡ false → add binary32 sum (getD values c nan) ≡ plus-value values sum c
+  value-added e = rw (sym says ∙ e)
+
+-- No cell, and one cell more.
+pub plus-none : (values : List Float) (sum : Float) → plus-values values sum [] ≡ sum
+unfolding plus-values
+plus-none values sum = refl
+
+pub plus-more : (values : List Float) (sum : Float) (l : List ℕ) (c : ℕ) → plus-values values sum (l ++ c ∷ []) ≡ plus-value values (plus-values values sum l) c
+unfolding plus-values
+plus-more values sum l c = foldl-append (plus-value values) sum l (c ∷ [])
+
+-- One entry more of a slice.
+pub plus-entry :
+    (values : List Float) (base : Float) (listed : List ℕ) (k : ℕ) {sum sum′ : Float} → k < length listed
+    → sum ≡ plus-values values base (take k listed) → sum′ ≡ plus-value values sum (getD listed k 0) → sum′ ≡ plus-values values base (take (k + 1) listed)
+plus-entry values base listed k less is more =
+    more
+    ∙ ap (λ s. plus-value values s (getD listed k 0)) is
+    ∙ sym (plus-more values base (take k listed) (getD listed k 0))
+    ∙ ap (plus-values values base) (sym (take-more listed k 0 less))

@@ -1,0 +1,3 @@
+pub mod Gain
+pub mod FromAmounts
+pub mod Promise
