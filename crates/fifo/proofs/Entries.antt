@@ -7,7 +7,7 @@ use Prim.Native.Nat.{ℕ, suc}
 use Rattle.fifo.specs.Machine.{Net, State, among, joined, passing, initial, label, take, run, trace}
 use Rattle.fifo.specs.Walk.{In, NoDup}
 use Rattle.fifo.proofs.Lists.{tested, not-among, among-in, in-among, in-either, in-back, joined-waiting, joined-new, in-joined, joiner-in, no-dup-passing}
-use Rattle.fifo.proofs.Induction.{waiting-store, entered-store, Kept, take-keeps, run-zero, run-stopped, run-head, trace-zero, trace-stopped, trace-head, by-takes}
+use Rattle.fifo.proofs.Induction.{waiting-store, entered-store, Kept, take-keeps, run-zero, run-stopped, run-head, trace-zero, trace-stopped, trace-head, by-takes, run-keeps}
 
 -- A list's cells join those that were found, in order: each once, where it comes first.
 abbrev pub once : List ℕ → List ℕ → List ℕ
@@ -77,6 +77,12 @@ module _ {L : Type 0} (net : Net L) where
   in-order-initial : InOrder [] (initial net)
   unfolding initial
   in-order-initial = let starting = passing (net .start) 0 (net .cells) in sym (once-new [] starting (no-dup-passing (net .start) 0 (net .cells)) (λ c i none. none))
+
+  -- A cell that was entered stays so.
+  pub entered-stays : (c : ℕ) (k : ℕ) (s : State L) → In c (s .entered) → In c (run net k s .entered)
+  entered-stays c =
+      run-keeps net (λ t. In c (t .entered))
+      (λ u ws s e i. take-keeps net (λ t. In c (t .entered)) u ws s (λ v f j t lower i. rw entered-store (in-joined c v (t .entered) i)) i)
 
   -- Where a run from the start has stopped, the cells in order of first entry are the taken cells in order of their first take.
   pub entered-as-taken :

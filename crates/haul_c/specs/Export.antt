@@ -1,8 +1,9 @@
 -- What an export writes and gives for what a search tells. Definitions only.
-use mathlib.Core.Bool.{Bool, true, false}
+use mathlib.Core.Bool.{Bool, not}
 use mathlib.Core.List.{List}
 use mathlib.Core.Path.{_≡_}
 use Prim.Native.Nat.{ℕ, zero, suc}
+use lib.Dec.{eqb}
 use lib.IntN.{ℤ}
 use lib.Ieee.{Float}
 use Rattle.binary32.specs.Numbers.{plus-zero}
@@ -16,7 +17,7 @@ use Rattle.calls.specs.Answer.{Told, refusal, takes, told}
 use Rattle.calls.specs.Promise.{Slice}
 use Rattle.distances.specs.Promise.{DistancesUpTo, DistanceWithObstacles, TravelDistancesUpTo}
 use Rattle.values.specs.Promise.{ValueAtClosestTarget, ValueAtClosestTravelTarget, ValueAtClosestLessThanTravelTarget}
-use Rattle.sums.specs.Promise.{SumTargetsWithinTravelDistance}
+use Rattle.sums.specs.Promise.{SumWithinTravelDistance, SumTargetsWithinTravelDistance}
 
 -- 0, or the refusal's number.
 abbrev pub status : Told → ℕ
@@ -59,8 +60,7 @@ diagonals-of (suc k) = Exclude
 
 -- 0 is no, any other number yes.
 abbrev pub yes : ℕ → Bool
-yes zero = false
-yes (suc k) = true
+yes flag = not (eqb flag 0)
 
 abbrev pub ExportedUpTo : ℤ → ℤ → List ℕ → Float → Float → Slice Float → Slice ℕ → Slice ℕ → ℕ → ℕ → ℕ → ℕ → ℕ → Type 0
 ExportedUpTo rows columns targets cell-size limit answer marks queue =
@@ -85,6 +85,10 @@ ExportedClosestTravel rows columns targets time-rows time-columns times value-ro
 abbrev pub ExportedClosestLessThan : ℤ → ℤ → List ℕ → ℤ → ℤ → List Float → ℤ → ℤ → List Float → Float → Slice Float → Slice Float → Slice ℕ → Slice ℕ → ℕ → ℕ → ℕ → ℕ → ℕ → Type 0
 ExportedClosestLessThan rows columns targets time-rows time-columns times value-rows value-columns values limit answer distances marks queue =
     Exported (ValueAtClosestLessThanTravelTarget (size rows columns) targets (size time-rows time-columns) times (size value-rows value-columns) values limit answer distances marks queue)
+
+abbrev pub ExportedSumWithin : ℤ → ℤ → List ℕ → ℤ → ℤ → List Float → ℤ → ℤ → List Float → Float → ℕ → Slice Float → Slice Float → Slice ℕ → Slice ℕ → Slice ℕ → Slice ℕ → ℕ → ℕ → ℕ → ℕ → ℕ → Type 0
+ExportedSumWithin rows columns mask time-rows time-columns times value-rows value-columns values limit with-adjacent answer distances marks listed adjacent queue =
+    Exported (SumWithinTravelDistance (size rows columns) mask (size time-rows time-columns) times (size value-rows value-columns) values limit (yes with-adjacent) answer distances marks listed adjacent queue)
 
 abbrev pub ExportedSumTargets : ℤ → ℤ → List Float → ℤ → ℤ → List Float → Float → Slice Float → Slice Float → Slice ℕ → Slice ℕ → Slice ℕ → ℕ → ℕ → ℕ → ℕ → ℕ → Type 0
 ExportedSumTargets rows columns times amount-rows amount-columns amounts limit answer distances marks added queue =

@@ -11,6 +11,7 @@ pub use by_distance::haul_distance_with_obstacles;
 pub use by_distance::haul_distances_up_to;
 pub use by_distance::haul_travel_distances_up_to;
 pub use by_sum::haul_sum_targets_within_travel_distance;
+pub use by_sum::haul_sum_within_travel_distance;
 pub use by_value::haul_value_at_closest_less_than_travel_target;
 pub use by_value::haul_value_at_closest_target;
 pub use by_value::haul_value_at_closest_travel_target;

@@ -47,3 +47,19 @@ pub fn as_stored(
     }
     buffers::words_left(queue, cleared)
 }
+
+// The same where the search has a buffer of distances too.
+pub fn as_stored_with_distances(
+    answer: Answer,
+    told: Told,
+    cells: &[f32],
+    bits: &[u32],
+    distances: &[f32],
+    marks: &[u8],
+    queue: &[u32],
+) -> bool {
+    if !buffers::floats_left(distances, stored::cleared(told)) {
+        return false;
+    }
+    as_stored(answer, told, cells, bits, marks, queue)
+}

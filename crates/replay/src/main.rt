@@ -5,6 +5,7 @@ ghost use lib.ListN.{length};
 mod answers;
 mod buffers;
 mod by_distance;
+mod by_sum;
 mod by_value;
 mod case;
 mod floats;
@@ -143,9 +144,16 @@ fn replay(path: &[u8], name: &[u8]) {
     libc::close(fd);
 }
 
-// A line for each search that the library has.
+// A line for each search, one for document 01's small grids, and one for the cases on which two programs once differed.
 fn main() {
     replay(b"search-1.txt", b"search 1: ");
     replay(b"search-2.txt", b"search 2: ");
+    replay(b"search-3.txt", b"search 3: ");
     replay(b"search-4.txt", b"search 4: ");
+    replay(b"search-5.txt", b"search 5: ");
+    replay(b"search-6.txt", b"search 6: ");
+    replay(b"search-7.txt", b"search 7: ");
+    replay(b"search-8.txt", b"search 8: ");
+    replay(b"small.txt", b"small grids: ");
+    replay(b"differed.txt", b"once differed: ");
 }

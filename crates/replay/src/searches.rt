@@ -3,6 +3,7 @@ ghost use Prim.Native.Nat.{_≤_};
 ghost use lib.ListN.{length};
 use crate::buffers;
 use crate::by_distance;
+use crate::by_sum;
 use crate::by_value;
 use crate::case::Grids;
 use crate::grids;
@@ -23,6 +24,9 @@ fn agrees_in(
     cells: &mut [f32],
     distances: &mut [f32],
     marks: &mut [u8],
+    listed: &mut [u32],
+    adjacent: &mut [u32],
+    added: &mut [u8],
     queue: &mut [u32],
 ) -> bool {
     let search = settings.search;
@@ -39,8 +43,18 @@ fn agrees_in(
             marks,
             queue,
         ),
-        4 => by_value::search_4(
+        3 => by_distance::search_3(
             settings,
+            read,
+            told,
+            targets,
+            times,
+            bits,
+            cells,
+            marks,
+            queue,
+        ),
+        4 => by_value::search_4(
             read,
             told,
             targets,
@@ -49,6 +63,59 @@ fn agrees_in(
             cells,
             distances,
             marks,
+            queue,
+        ),
+        5 => by_value::search_5(
+            read,
+            told,
+            targets,
+            times,
+            values,
+            bits,
+            cells,
+            distances,
+            marks,
+            queue,
+        ),
+        6 => by_value::search_6(
+            settings,
+            read,
+            told,
+            targets,
+            times,
+            values,
+            bits,
+            cells,
+            distances,
+            marks,
+            queue,
+        ),
+        7 => by_sum::search_7(
+            settings,
+            read,
+            told,
+            targets,
+            times,
+            values,
+            bits,
+            cells,
+            distances,
+            marks,
+            listed,
+            adjacent,
+            queue,
+        ),
+        8 => by_sum::search_8(
+            settings,
+            read,
+            told,
+            times,
+            values,
+            bits,
+            cells,
+            distances,
+            marks,
+            added,
             queue,
         ),
         _ => false,
@@ -73,6 +140,9 @@ fn agrees_on(
     let mut cells = [buffers::DIRTY_FLOAT; grids::CELLS];
     let mut distances = [buffers::DIRTY_FLOAT; grids::CELLS];
     let mut marks = [buffers::DIRTY_BYTE; grids::CELLS];
+    let mut listed = [buffers::DIRTY_WORD; grids::CELLS];
+    let mut adjacent = [buffers::DIRTY_WORD; grids::CELLS];
+    let mut added = [buffers::DIRTY_BYTE; grids::CELLS];
     let mut queue = [buffers::DIRTY_WORD; grids::SLOTS];
     agrees_in(
         settings,
@@ -86,6 +156,9 @@ fn agrees_on(
         &mut cells[..n],
         &mut distances[..n],
         &mut marks[..n],
+        &mut listed[..n],
+        &mut adjacent[..n],
+        &mut added[..n],
         &mut queue[..slots],
     )
 }

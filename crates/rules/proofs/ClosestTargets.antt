@@ -1,10 +1,10 @@
 -- Searches 4, 5 and 6: each reached cell holds the value of a target from which a permitted path leads to it with the least sum. Assumes nothing.
-use mathlib.Core.Bool.{Bool, true, false, not, cond, _&&_, _||_}
+use mathlib.Core.Bool.{Bool, true, false, not, cond, _||_}
 use mathlib.Core.Logic.{_⊎_, inl, inr, ⊎-elim}
 use mathlib.Core.Path.{_≡_, refl, sym, ap, _∙_, subst}
 use Prim.Native.Nat.{ℕ, suc, _*_, _<_}
 use lib.Dec.{T, eqb, eqb-refl}
-use lib.Ieee.{Float, nan, binary32, add, mul, lt, fits, isNan}
+use lib.Ieee.{Float, nan, binary32, add, lt, fits, isNan}
 use lib.Ieee.Bits.{is-false}
 use lib.Ieee.Fits.{and-l}
 use Rattle.binary32.specs.Numbers.{plus-zero}

@@ -18,7 +18,7 @@ use Rattle.fifo.proofs.Search.{closed-first}
 use Rattle.rules.specs.declared.BarrierDiagonals.{BarrierDiagonals}
 use Rattle.rules.specs.Numbers.{infinity}
 use Rattle.rules.specs.Sizes.{Size, Grid, in-bounds}
-use Rattle.rules.specs.Cells.{straight-neighbours, diagonal-neighbours, moves}
+use Rattle.rules.specs.Cells.{moves}
 use Rattle.rules.specs.Distances.{target, target-data, from-targets, plain, free, blocked, with-obstacles, half-sum, both-data, travel}
 use Rattle.rules.specs.Paths.{Path, alone, onward, Allowed-2, AllowedBy, LeastOrCap, HoldsLeastSums, LeastSums-1, LeastSums-2, LeastSums-3}
 use Rattle.rules.proofs.Neighbours.{Permitted, straight-step, diagonal-step, moves-permitted, permitted-moves}

@@ -29,7 +29,7 @@ use Rattle.rules.specs.Sums.{plus-time-or-quarter, from-mask-cell, from-amount}
 use Rattle.spread.specs.declared.search.Rule.{Rule}
 use Rattle.spread.specs.declared.search.Rule.the-variants.{Plain, Obstacles, HalfSum, Closest, ByTime, FromMaskCell, FromAmount}
 use Rattle.spread.specs.declared.search.Search.{Search}
-use Rattle.spread.specs.Nets.{Grids, sized, stepping, restepping, anywhere, net-by, net-of}
+use Rattle.spread.specs.Nets.{Grids, sized, stepping, anywhere, net-by, net-of}
 
 -- A cell is tried exactly if it is permitted, or it is not permitted and the step to it is idle.
 abbrev pub KeptOrIdle : {L : Type 0} → Net L → Bool → Bool → ℕ → (L → L) → Type 0

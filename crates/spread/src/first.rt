@@ -25,7 +25,7 @@ pub struct First {
 }
 
 // Whether a target byte marks a target: it is nonzero, and not nodata.
-fn is_target(byte: u8) -> bool
+pub fn is_target(byte: u8) -> bool
     ensures { λ r. ⌜ r ≡ number.target-byte byte ⌝ }
 {
     byte != 0 && byte != NODATA_BYTE

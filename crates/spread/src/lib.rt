@@ -17,6 +17,7 @@ mod take;
 mod waiting;
 
 pub use begin::begin_cells;
+pub use first::is_target;
 pub use run::spread;
 pub use search::Rule;
 pub use search::Search;

@@ -25,10 +25,10 @@ use Rattle.spread.specs.Buffers.{Buffers}
 use Rattle.spread.specs.Begin.{Begins, BeganTo}
 use Rattle.spread.specs.Promise.{grids, Spreads}
 use Rattle.spread.proofs.Running.{begun-ready, begun-runs}
-use Rattle.spread.proofs.Agrees.{takes-within, amount-agrees}
+use Rattle.spread.proofs.Agrees.{amount-agrees}
 use Rattle.sums.specs.Gain.{gaining-of, Gaining, GainedAll}
 use Rattle.sums.specs.FromAmounts.{Lengths, Ways, Searching, SearchedAmount, SearchedCell, SearchingCell, SearchingAll, SearchedAll}
-use Rattle.sums.proofs.Endings.{ends-as}
+use Rattle.sums.proofs.Endings.{spreads-by-times, ends-as}
 use Rattle.sums.proofs.Starts.{runs-to, fold-next, total-next, total-fits, total-of-runs}
 
 -- ---- one amount
@@ -38,24 +38,10 @@ module _ (size : Size) (times : List Float) (limit : Float) (start : ℕ) where
   amount-search = record { rule = FromAmount start; size = size; limit = limit }
 
   module _ {answer distances : List Float} {marks added queue : List ℕ} (asked : Searching size times limit answer distances marks added queue) where
-    -- The rule reads the times alone, and nothing goes along.
-    pub amount-spreads : (targets obstacles : List ℕ) (values carried : List Float) → Spreads amount-search (grids targets obstacles times values) distances carried marks queue
-    amount-spreads targets obstacles values carried = record {
-      inputs = record {
-        bounds = asked .ways .bounds;
-        targets-length = λ reads. absurd (false≢true reads);
-        times-length = λ reads. asked .ways .times-length;
-        values-length = λ carries. absurd (false≢true carries);
-      };
-      setting = record { bounds = asked .ways .bounds; obstacles-length = λ avoids. absurd (false≢true avoids); times-length = λ reads. asked .ways .times-length };
-      lengths = record {
-        distances-length = asked .lengths .distances-length;
-        carried-length = λ carries. absurd (false≢true carries);
-        marks-length = asked .lengths .marks-length;
-        queue-length = asked .lengths .queue-length;
-      };
-      within = takes-within (count size * count size) amount-search (grids targets obstacles times values) (asked .ways .within start);
-    }
+    amount-spreads : (targets obstacles : List ℕ) (values carried : List Float) → Spreads amount-search (grids targets obstacles times values) distances carried marks queue
+    amount-spreads targets obstacles values carried =
+        spreads-by-times amount-search targets obstacles values carried refl refl refl (asked .ways .bounds) (asked .ways .times-length)
+        (asked .lengths .distances-length) (asked .lengths .marks-length) (asked .lengths .queue-length) (asked .ways .within start)
 
     pub amount-begins : (targets : List ℕ) (values carried : List Float) → Begins amount-search targets times values distances carried marks queue
     amount-begins targets values carried =

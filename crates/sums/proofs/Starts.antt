@@ -2,8 +2,8 @@
 use mathlib.Core.Bool.{Bool, true, false, cond}
 use mathlib.Core.List.{List, [], _∷_, _++_, map, map-append, foldl, foldl-append}
 use mathlib.Core.Path.{_≡_, refl, sym, ap, _∙_}
-use Prim.Native.Nat.{ℕ, _+_, _*_, _≤_, _<_}
-use native.Mathlib.Nat.{le-refl, le-trans, mul-le-mul, lt-of-le-of-lt}
+use Prim.Native.Nat.{ℕ, suc, _+_, _-_, _*_, _≤_, _<_}
+use native.Mathlib.Nat.{zero-add, le-refl, le-trans, mul-le-mul, lt-of-le-of-lt}
 use native.Mathlib.Omega.{arith}
 use lib.Dec.{T, lit<}
 use lib.Ieee.{Float}
@@ -12,7 +12,7 @@ use mir.Syntax.{w64}
 use mir.Val.{Fits}
 use Rattle.fifo.specs.Machine.{Net, passing, initial, takes, takes-of}
 use Rattle.fifo.specs.Simulation.{Within}
-use Rattle.fifo.proofs.Lists.{passing-last, length-passing}
+use Rattle.fifo.proofs.Lists.{passing-append, passing-last, length-passing}
 use Rattle.rules.specs.declared.Size.{Size}
 use Rattle.rules.specs.Sizes.{in-bounds, count}
 use Rattle.rules.specs.Sums.{Run, run-of, total-takes}
@@ -30,12 +30,29 @@ module _ (test : ℕ → Bool) (net : ℕ → Net Float) where
   runs-to i = map (run-of net) (passing test 0 i)
 
   -- One cell more is one run more, if it passes.
+  pub runs-next : (i : ℕ) → runs-to (i + 1) ≡ runs-to i ++ map (run-of net) (cond (test i) (i ∷ []) [])
+  runs-next i = ap (map (run-of net)) (passing-last test i) ∙ map-append (run-of net) (passing test 0 i) (cond (test i) (i ∷ []) [])
+
+  -- The run from a cell that passes comes right after those from the cells before it.
+  pub runs-split : (i n : ℕ) → i < n → test i ≡ true → (rest : List Run) × (runs-to n ≡ runs-to i ++ run-of net i ∷ rest)
+  unfolding passing
+  runs-split i n below is =
+      let k = n - i - 1 in
+      let sum : n ≡ i + suc k = omega arith in
+      let later = passing test (suc i) k in (
+        map (run-of net) later,
+        ap (λ m. map (run-of net) (passing test 0 m)) sum
+            ∙ ap (map (run-of net)) (passing-append test 0 i (suc k)
+            ∙ ap (λ m. passing test 0 i ++ passing test m (suc k)) (zero-add i)
+            ∙ ap (λ b. passing test 0 i ++ cond b (i ∷ later) later) is)
+            ∙ map-append (run-of net) (passing test 0 i) (i ∷ later),
+      )
+
   pub fold-next :
       {A : Type 0} (step : A → Run → A) (a : A) (i : ℕ)
       → foldl step a (runs-to (i + 1)) ≡ cond (test i) (step (foldl step a (runs-to i)) (run-of net i)) (foldl step a (runs-to i))
   fold-next {A} step a i =
-      ap (λ cells. foldl step a (map (run-of net) cells)) (passing-last test i)
-      ∙ ap (foldl step a) (map-append (run-of net) (passing test 0 i) (cond (test i) (i ∷ []) []))
+      ap (foldl step a) (runs-next i)
       ∙ foldl-append step a (runs-to i) (map (run-of net) (cond (test i) (i ∷ []) []))
       ∙ one (test i) (foldl step a (runs-to i))
     where

@@ -1,4 +1,5 @@
 -- What the searches for sums promise. Definitions only.
+use mathlib.Core.Bool.{Bool}
 use mathlib.Core.List.{List, [], _∷_}
 use mathlib.Core.Path.{_≡_}
 use Prim.Native.Nat.{ℕ}
@@ -7,12 +8,32 @@ use lib.ListN.{length}
 use Rattle.binary32.specs.Numbers.{plus-zero}
 use Rattle.rules.specs.declared.Size.{Size}
 use Rattle.rules.specs.Sizes.{Lent, Outcome, accepted, count}
-use Rattle.rules.specs.Sums.{total-takes, runs-8, gains, outcome-8}
+use Rattle.rules.specs.Sums.{total-takes, outcome-7, runs-8, gains, outcome-8}
 use Rattle.calls.specs.declared.answer.Answer.{Answer}
 use Rattle.calls.specs.Answer.{buffer-after}
 use Rattle.calls.specs.Given.{grid, lent}
 use Rattle.calls.specs.Promise.{Slice, Promised}
 use Rattle.sums.specs.FromAmounts.{Searching}
+
+-- ---- 7: sum_within_travel_distance
+
+-- What every search promises, and the same of the buffers of distances, of the listed cells and of the adjacent ones.
+pub record PromisedSums (outcome : Outcome) (r : Answer) (answer distances : Slice Float) (marks listed adjacent queue : Slice ℕ) : Type 0 where
+  pub promised : Promised outcome r answer marks queue
+  pub distances-left : distances .after ≡ buffer-after plus-zero outcome (distances .before)
+  pub listed-left : listed .after ≡ buffer-after 0 outcome (listed .before)
+  pub adjacent-left : adjacent .after ≡ buffer-after 0 outcome (adjacent .before)
+
+-- The lengths of what search 7 is lent.
+abbrev pub lengths-7 : Slice Float → Slice Float → Slice ℕ → Slice ℕ → Slice ℕ → Slice ℕ → Lent
+lengths-7 answer distances marks listed adjacent queue =
+    lent (length (answer .before) ∷ length (distances .before) ∷ length (marks .before) ∷ length (listed .before) ∷ length (adjacent .before) ∷ []) (length (queue .before))
+
+abbrev pub SumWithinTravelDistance : Size → List ℕ → Size → List Float → Size → List Float → Float → Bool → Slice Float → Slice Float → Slice ℕ → Slice ℕ → Slice ℕ → Slice ℕ → Answer → Type 0
+SumWithinTravelDistance mask-size mask times-size times values-size values limit include answer distances marks listed adjacent queue r =
+    PromisedSums (outcome-7 (grid mask-size mask) (grid times-size times) (grid values-size values) limit include (lengths-7 answer distances marks listed adjacent queue)) r answer distances marks listed adjacent queue
+
+-- ---- 8: sum_targets_within_travel_distance
 
 -- What every search promises, and the same of the buffers of distances and of the cells that have gained.
 pub record PromisedGains (outcome : Outcome) (r : Answer) (answer distances : Slice Float) (marks added queue : Slice ℕ) : Type 0 where
@@ -25,13 +46,11 @@ abbrev pub lengths-8 : Slice Float → Slice Float → Slice ℕ → Slice ℕ �
 lengths-8 answer distances marks added queue =
     lent (length (answer .before) ∷ length (distances .before) ∷ length (marks .before) ∷ length (added .before) ∷ []) (length (queue .before))
 
--- 8: sum_targets_within_travel_distance.
 abbrev pub SumTargetsWithinTravelDistance : Size → List Float → Size → List Float → Float → Slice Float → Slice Float → Slice ℕ → Slice ℕ → Slice ℕ → Answer → Type 0
 SumTargetsWithinTravelDistance times-size times amounts-size amounts limit answer distances marks added queue r =
     PromisedGains (outcome-8 (grid times-size times) (grid amounts-size amounts) limit (lengths-8 answer distances marks added queue)) r answer distances marks added queue
 
--- ---- search 8 once no test refuses
-
+-- Search 8 once no test refuses.
 pub record Sums (size : Size) (times amounts : List Float) (limit : Float) (answer distances : List Float) (marks added queue : List ℕ) : Type 0 where
   pub asked : Searching size times limit answer distances marks added queue
   pub amounts-length : length amounts ≡ count size

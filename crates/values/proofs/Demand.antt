@@ -11,7 +11,7 @@ use Rattle.fifo.specs.Laws.{Laws, room}
 use Rattle.fifo.proofs.Search.{read-length, read-at}
 use Rattle.rules.specs.declared.Size.{Size}
 use Rattle.rules.specs.Numbers.{infinity}
-use Rattle.rules.specs.Sizes.{Grid, Judged, count}
+use Rattle.rules.specs.Sizes.{Judged, count}
 use Rattle.rules.specs.Values.{Carried, values-of, closest, closest-by-time, refusals-4, refusals-5, refusals-6, outcome-4, outcome-5, outcome-6}
 use Rattle.rules.proofs.Inputs.{AcceptedTimes, infinity-fits, infinity-not-nan}
 use Rattle.rules.proofs.Accepted.{accepted-5, accepted-6}

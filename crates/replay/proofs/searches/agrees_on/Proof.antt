@@ -26,11 +26,29 @@ array-borrow-prefix-marks c = search needs
 slice-aggregate-agrees-in-3 : tie.Need-slice-aggregate-agrees-in-3
 slice-aggregate-agrees-in-3 c = first _ _ (omega arith)
 
-array-borrow-prefix-queue : tie.Need-array-borrow-prefix-queue
-array-borrow-prefix-queue c = search needs
+array-borrow-prefix-listed : tie.Need-array-borrow-prefix-listed
+array-borrow-prefix-listed c = search needs
 
 slice-aggregate-agrees-in-4 : tie.Need-slice-aggregate-agrees-in-4
 slice-aggregate-agrees-in-4 c = first _ _ (omega arith)
+
+array-borrow-prefix-adjacent : tie.Need-array-borrow-prefix-adjacent
+array-borrow-prefix-adjacent c = search needs
+
+slice-aggregate-agrees-in-5 : tie.Need-slice-aggregate-agrees-in-5
+slice-aggregate-agrees-in-5 c = first _ _ (omega arith)
+
+array-borrow-prefix-added : tie.Need-array-borrow-prefix-added
+array-borrow-prefix-added c = search needs
+
+slice-aggregate-agrees-in-6 : tie.Need-slice-aggregate-agrees-in-6
+slice-aggregate-agrees-in-6 c = first _ _ (omega arith)
+
+array-borrow-prefix-queue : tie.Need-array-borrow-prefix-queue
+array-borrow-prefix-queue c = search needs
+
+slice-aggregate-agrees-in-7 : tie.Need-slice-aggregate-agrees-in-7
+slice-aggregate-agrees-in-7 c = first _ _ (omega arith)
 
 agrees-in-requires : tie.Need-agrees-in-requires
 agrees-in-requires c κs = search needs
@@ -49,7 +67,13 @@ agrees-on-spec =
     slice-aggregate-agrees-in-2
     array-borrow-prefix-marks
     slice-aggregate-agrees-in-3
-    array-borrow-prefix-queue
+    array-borrow-prefix-listed
     slice-aggregate-agrees-in-4
+    array-borrow-prefix-adjacent
+    slice-aggregate-agrees-in-5
+    array-borrow-prefix-added
+    slice-aggregate-agrees-in-6
+    array-borrow-prefix-queue
+    slice-aggregate-agrees-in-7
     agrees-in-requires
     returns)

@@ -1,5 +1,5 @@
 -- `formulas::candidate` meets its contract: by the rule that an arm is for. Assumes nothing.
-use mathlib.Core.Path.{refl, ap, _∙_}
+use mathlib.Core.Path.{refl}
 use Rattle.spread.proofs.Relaxing.{left-time-read, entered-time-read}
 use borrow.Author.Needs.{needs}
 use Rattle.spread.proofs.formulas.candidate.Statement.{statement}

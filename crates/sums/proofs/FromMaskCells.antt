@@ -1,0 +1,217 @@
+-- The search from one mask cell: the cells that it reached are those of the rules, and so is their sum. Assumes nothing.
+use mathlib.Core.Bool.{Bool, true, false, cond, _&&_}
+use mathlib.Core.List.{List, [], _∷_, map}
+use mathlib.Core.Logic.{inl, ⊎-elim}
+use mathlib.Core.Path.{_≡_, refl, sym, ap, _∙_, subst}
+use Prim.Native.Nat.{ℕ, _*_, _<_}
+use native.Mathlib.Omega.{arith}
+use borrow.Author.Tests.{eq-eqb}
+use lib.Dec.{T, eqb}
+use lib.Ieee.{Float}
+use lib.ListN.{length, replicate, take}
+use Rattle.binary32.specs.Numbers.{plus-zero}
+use Rattle.fifo.specs.Machine.{among, joined, passing, initial, finish}
+use Rattle.fifo.specs.Walk.{In}
+use Rattle.fifo.proofs.Lists.{tested, holds, in-among, in-passing, joined-waiting}
+use Rattle.fifo.proofs.Induction.{run-stopped}
+use Rattle.fifo.proofs.Entries.{entered-stays, entered-as-taken}
+use Rattle.rules.specs.declared.Size.{Size}
+use Rattle.rules.specs.Sizes.{Grid, any, count}
+use Rattle.rules.specs.Distances.{has-data}
+use Rattle.rules.specs.Sums.{run-of, from-mask-cell, listed, over-budget, sum-of, add-values, adjacent-cells}
+use Rattle.rules.proofs.Squares.{mask-cell-idle}
+use Rattle.calls.specs.Given.{grid}
+use Rattle.spread.specs.declared.search.Rule.the-variants.{FromMaskCell}
+use Rattle.spread.specs.declared.search.Search.{Search}
+use Rattle.spread.specs.Steps.{terrain}
+use Rattle.spread.specs.Buffers.{Buffers}
+use Rattle.spread.specs.First.{net-on}
+use Rattle.spread.specs.Begin.{Begins, BeganTo}
+use Rattle.spread.specs.Loop.{taken-at}
+use Rattle.spread.specs.Promise.{grids, Spreads}
+use Rattle.spread.proofs.Running.{begun-ready, begun-runs}
+use Rattle.spread.proofs.Agrees.{mask-cell-agrees}
+use Rattle.reach.specs.Listing.{Listing, Joining, Joined, Cells}
+use Rattle.reach.specs.Summing.{plus-values, above}
+use Rattle.reach.specs.Adjacent.{adjacent, Fitting, Beside, AddedAdjacent}
+use Rattle.reach.proofs.Listings.{listing-none, joining, listing-joined, listing-cells}
+use Rattle.reach.proofs.Around.{listing-beside}
+use Rattle.reach.proofs.Rules.{values-are, adjacent-are}
+use Rattle.sums.specs.declared.listing.Reached.{Reached}
+use Rattle.sums.specs.Listed.{each-once, Lists, ListedAll}
+use Rattle.sums.specs.FromMask.{Lengths, Ways, Reaching, run-from, ReachedFrom, SumReached, Summing, SummedFrom}
+use Rattle.sums.proofs.Endings.{EndsAs, spreads-by-times, ends-as}
+
+-- ---- the list
+
+module _ (times : Grid Float) (start : ℕ) (inside : start < count (times .size)) where
+  -- A mask cell whose time has data is entered from the start on.
+  start-entered : has-data times start ≡ true → In start (initial (from-mask-cell times start) .entered)
+  unfolding initial from-mask-cell
+  start-entered has =
+      in-passing (λ c. eqb c start && has-data times c) 0 (count (times .size)) start (omega arith) (omega arith)
+      (holds (ap (λ b. b && has-data times start) (eq-eqb start start refl) ∙ has))
+
+  -- From one whose time is nodata nothing is entered.
+  none-entered : has-data times start ≡ false → finish (from-mask-cell times start) .entered ≡ []
+  unfolding finish initial
+  none-entered none =
+      let net = from-mask-cell times start in
+      let idle = mask-cell-idle times start none in
+      ap (λ s. s .entered) (run-stopped net (net .cells * net .cells) (initial net) idle) ∙ idle
+
+  -- With the mask cell the list of the entered cells is the rules' list: the mask cell is among them already, or is listed alone.
+  listed-with-data : has-data times start ≡ true → joined start (finish (from-mask-cell times start) .entered) ≡ listed times (run-of (from-mask-cell times) start)
+  unfolding finish
+  listed-with-data has =
+      let net = from-mask-cell times start in
+      let entered = finish net .entered in
+      joined-waiting start entered (in-among start entered (entered-stays net start (net .cells * net .cells) (initial net) (start-entered has)))
+      ∙ ap (λ b. cond b entered (start ∷ [])) (sym has)
+
+  listed-alone : has-data times start ≡ false → joined start (finish (from-mask-cell times start) .entered) ≡ listed times (run-of (from-mask-cell times) start)
+  unfolding joined among
+  listed-alone none = ap (joined start) (none-entered none) ∙ ap (λ b. cond b (finish (from-mask-cell times start) .entered) (start ∷ [])) (sym none)
+
+  pub listed-with-start : joined start (finish (from-mask-cell times start) .entered) ≡ listed times (run-of (from-mask-cell times) start)
+  listed-with-start = ⊎-elim listed-with-data listed-alone (tested (has-data times start))
+
+-- The cells in order of first entry are the taken cells, each once.
+entered-is : (times : Grid Float) (start : ℕ) {taken : List (ℕ × Float)} {distances : List Float} {r : ℕ} → EndsAs (from-mask-cell times start) taken distances r
+    → each-once taken ≡ finish (from-mask-cell times start) .entered
+unfolding finish
+entered-is times start ends =
+    let net = from-mask-cell times start in
+    ap each-once (sym (ends .traced)) ∙ sym (entered-as-taken net (net .cells * net .cells) (ends .stopped))
+
+-- ---- the search
+
+module _ (size : Size) (times : List Float) (start : ℕ) (limit : Float) where
+  abbrev pub mask-search : Search
+  mask-search = record { rule = FromMaskCell start; size = size; limit = limit }
+
+  module _ {distances : List Float} {marks listed met queue : List ℕ} (asked : Reaching size times start distances marks listed met queue) where
+    mask-spreads : (targets obstacles : List ℕ) (values carried : List Float) → Spreads mask-search (grids targets obstacles times values) distances carried marks queue
+    mask-spreads targets obstacles values carried =
+        spreads-by-times mask-search targets obstacles values carried refl refl refl (asked .ways .bounds) (asked .ways .times-length)
+        (asked .lengths .distances-length) (asked .lengths .marks-length) (asked .lengths .queue-length) (asked .ways .within start)
+
+    pub mask-begins : (targets : List ℕ) (values carried : List Float) → Begins mask-search targets times values distances carried marks queue
+    mask-begins targets values carried =
+        let spreads = mask-spreads targets targets values carried in
+        record { inputs = spreads .inputs; lengths = spreads .lengths }
+
+    module _
+        {targets obstacles : List ℕ} {values carried : List Float} {begun : Buffers}
+        (began : BeganTo mask-search targets times values (count size) carried begun)
+      where
+        pub mask-lists : {met₁ : List ℕ} → met₁ ≡ replicate (length met) 0 → Lists mask-search (terrain obstacles times) listed met₁ begun
+        mask-lists {met₁} cleared = record {
+          running = begun-runs (mask-spreads targets obstacles values carried) began;
+          none-listed =
+              subst (λ m. Listing (count size) m listed 0 []) (sym (cleared ∙ ap (λ n. replicate n 0) (asked .lengths .met-length)))
+              (listing-none (count size) (asked .lengths .listed-length));
+        }
+
+        module _
+            {distances₁ carried₁ : List Float} {marks₁ listed₁ met₁ queue₁ : List ℕ} {r : Reached}
+            (found : ListedAll mask-search (terrain obstacles times) begun distances₁ carried₁ marks₁ listed₁ met₁ queue₁ r)
+          where
+            ready-lists : Listing (count size) met₁ listed₁ (r .count) (each-once (taken-at (net-on mask-search targets obstacles times values) (r .takes)))
+            ready-lists = found .lists _ (begun-ready (mask-spreads targets obstacles values carried) began)
+
+            pub start-joins : Joining start met₁ listed₁ (r .count)
+            start-joins = joining ready-lists start (asked .inside)
+
+            pub mask-reached :
+                {listed₂ met₂ : List ℕ} {entries : ℕ} → Joined start met₁ listed₁ (r .count) met₂ listed₂ entries
+                → ReachedFrom size times start distances₁ marks₁ listed₂ met₂ queue₁ (record { takes = r .takes; count = entries })
+            unfolding from-mask-cell
+            mask-reached {listed₂} {met₂} {entries} joins =
+                let spreads = mask-spreads targets obstacles values carried in
+                let ends = ends-as spreads began (found .ran) (from-mask-cell (grid size times) start) refl (mask-cell-agrees mask-search (grids targets obstacles times values) start refl) in
+                record {
+                  lengths = record {
+                    distances-length = found .ran .lengths .distances-length;
+                    marks-length = found .ran .lengths .marks-length;
+                    listed-length = joins .lists .long ∙ found .met-length;
+                    met-length = joins .lists .marks .long ∙ found .met-length;
+                    queue-length = found .ran .lengths .queue-length;
+                  };
+                  labels = ends .labels;
+                  lists =
+                      subst (Listing (count size) met₂ listed₂ entries) (ap (joined start) (entered-is (grid size times) start ends) ∙ listed-with-start (grid size times) start (asked .inside))
+                      (listing-joined ready-lists start joins);
+                  counted = ends .counted;
+                }
+
+-- ---- the sum
+
+module _ {size : Size} {values distances : List Float} {cells : List ℕ} {limit : Float} {alone : Float} where
+  pub sum-without : alone ≡ plus-values values plus-zero cells → {met : List ℕ} {include : Bool} → include ≡ false → length met ≡ count size → SumReached size values distances cells limit include met alone
+  sum-without sum is long = record {
+    met-length = long;
+    sum-is = sum ∙ ap (λ b. cond b (plus-values values (plus-values values plus-zero cells) (adjacent size distances limit cells)) (plus-values values plus-zero cells)) (sym is);
+  }
+
+  pub sum-with :
+      alone ≡ plus-values values plus-zero cells → {met′ : List ℕ} {include : Bool} → include ≡ true → {sum : Float} → AddedAdjacent size values distances limit alone cells met′ sum
+      → SumReached size values distances cells limit include met′ sum
+  sum-with reached is added = record {
+    met-length = added .marks .long;
+    sum-is =
+        added .added
+        ∙ ap (λ s. plus-values values s (adjacent size distances limit cells)) reached
+        ∙ ap (λ b. cond b (plus-values values (plus-values values plus-zero cells) (adjacent size distances limit cells)) (plus-values values plus-zero cells)) (sym is);
+  }
+
+pub beside-cells : {size : Size} {values distances : List Float} {listed : List ℕ} {entries : ℕ} {met : List ℕ} → Beside size values distances listed entries met → Cells (length values) listed entries
+beside-cells {listed = listed} {entries = entries} beside = subst (λ n. Cells n listed entries) (sym (beside .fits .values-long)) (beside .lists)
+
+module _
+    {size : Size} {times values : List Float} {start : ℕ} {distances : List Float} {marks listed₀ met queue : List ℕ}
+    (asked : Summing size times values start distances marks listed₀ met queue)
+    {distances₁ : List Float} {marks₁ listed₁ met₁ queue₁ : List ℕ} {r : Reached}
+    (reached : ReachedFrom size times start distances₁ marks₁ listed₁ met₁ queue₁ r)
+  where
+    pub reached-cells : Cells (length distances₁) listed₁ (r .count)
+    reached-cells = subst (λ n. Cells n listed₁ (r .count)) (sym (reached .lengths .distances-length)) (listing-cells (reached .lists))
+
+    pub reached-beside : Beside size values distances₁ listed₁ (r .count) met₁
+    reached-beside =
+        listing-beside (record {
+          bounds = asked .reaching .ways .bounds;
+          values-long = asked .values-length;
+          distances-long = reached .lengths .distances-length;
+          met-long = reached .lengths .met-length;
+        }) (reached .lists)
+
+    -- The listed cells are the rules' list, and the distances are the labels at the end.
+    pub summed-from :
+        {limit : Float} {include over : Bool} {sum : Float} {met₂ : List ℕ} → over ≡ any (above distances₁ limit) (take (r .count) listed₁)
+        → SumReached size values distances₁ (take (r .count) listed₁) limit include met₂ sum
+        → SummedFrom size times values limit include start distances₁ marks₁ listed₁ met₂ queue₁ (record { takes = r .takes; over = over; sum = sum })
+    unfolding sum-of
+    summed-from {limit} {include} over-is summed =
+        let run = run-from size times start in
+        let cells : take (r .count) listed₁ ≡ listed (grid size times) run = reached .lists .first in
+        let labels = reached .labels in
+        record {
+          lengths = record {
+            distances-length = reached .lengths .distances-length;
+            marks-length = reached .lengths .marks-length;
+            listed-length = reached .lengths .listed-length;
+            met-length = summed .met-length;
+            queue-length = reached .lengths .queue-length;
+          };
+          counted = reached .counted;
+          over-is = over-is ∙ ap (λ l. any (above distances₁ limit) l) cells ∙ ap (λ d. any (above d limit) (listed (grid size times) run)) labels;
+          sum-is =
+              summed .sum-is
+              ∙ ap (λ l. let alone = plus-values values plus-zero l in cond include (plus-values values alone (adjacent size distances₁ limit l)) alone) cells
+              ∙ ap (λ d. let alone = plus-values values plus-zero (listed (grid size times) run) in cond include (plus-values values alone (adjacent size d limit (listed (grid size times) run))) alone) labels
+              ∙ ap (λ alone. cond include (plus-values values alone (adjacent size (run .ends .labels) limit (listed (grid size times) run))) alone) (values-are (grid size values) plus-zero (listed (grid size times) run))
+              ∙ ap (λ more. cond include more (add-values (grid size values) plus-zero (listed (grid size times) run)))
+              (ap (plus-values values (add-values (grid size values) plus-zero (listed (grid size times) run))) (adjacent-are (grid size times) limit run)
+              ∙ values-are (grid size values) (add-values (grid size values) plus-zero (listed (grid size times) run)) (adjacent-cells (grid size times) limit run));
+        }

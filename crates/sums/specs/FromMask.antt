@@ -1,0 +1,70 @@
+-- The search from one mask cell: what it asks and promises. Definitions only.
+use mathlib.Core.Bool.{Bool, cond}
+use mathlib.Core.List.{List}
+use mathlib.Core.Path.{_≡_}
+use Prim.Native.Nat.{ℕ, suc, _*_, _<_}
+use lib.Dec.{T}
+use lib.Ieee.{Float}
+use lib.ListN.{length}
+use Rattle.binary32.specs.Numbers.{plus-zero}
+use Rattle.fifo.specs.Simulation.{Within}
+use Rattle.rules.specs.declared.Size.{Size}
+use Rattle.rules.specs.Sizes.{in-bounds, count}
+use Rattle.rules.specs.Sums.{Run, run-of, from-mask-cell, listed, over-budget, sum-of}
+use Rattle.calls.specs.Given.{grid}
+use Rattle.reach.specs.Listing.{Listing}
+use Rattle.reach.specs.Summing.{plus-values}
+use Rattle.reach.specs.Adjacent.{adjacent}
+use Rattle.sums.specs.declared.listing.Reached.{Reached}
+use Rattle.sums.specs.declared.mask_cell.MaskSum.{MaskSum}
+
+-- The work buffers have their lengths, whatever they hold.
+pub record Lengths (size : Size) (distances : List Float) (marks listed met queue : List ℕ) : Type 0 where
+  pub distances-length : length distances ≡ count size
+  pub marks-length : length marks ≡ count size
+  pub listed-length : length listed ≡ count size
+  pub met-length : length met ≡ count size
+  pub queue-length : length queue ≡ suc (count size)
+
+-- The size is within the bounds, the times are lent, and from no start the search takes more than the square of the number of cells.
+pub record Ways (size : Size) (times : List Float) : Type 0 where
+  pub bounds : T (in-bounds size)
+  pub times-length : length times ≡ count size
+  pub within : (start : ℕ) → Within (count size * count size) (from-mask-cell (grid size times) start)
+
+pub record Reaching (size : Size) (times : List Float) (start : ℕ) (distances : List Float) (marks listed met queue : List ℕ) : Type 0 where
+  pub ways : Ways size times
+  pub lengths : Lengths size distances marks listed met queue
+  pub inside : start < count size
+
+-- The rules' run from a mask cell.
+abbrev pub run-from : Size → List Float → ℕ → Run
+run-from size times start = run-of (from-mask-cell (grid size times)) start
+
+-- The search has ended: its distances are there, and the cells that it reached are listed, and met.
+pub record ReachedFrom (size : Size) (times : List Float) (start : ℕ) (distances′ : List Float) (marks′ listed′ met′ queue′ : List ℕ) (r : Reached) : Type 0 where
+  pub lengths : Lengths size distances′ marks′ listed′ met′ queue′
+  pub labels : distances′ ≡ run-from size times start .ends .labels
+  pub lists : Listing (count size) met′ listed′ (r .count) (listed (grid size times) (run-from size times start))
+  pub counted : r .takes ≡ run-from size times start .takes
+
+-- The sum over plain lists: the cells' values, and those of the cells beside them if they are included.
+pub record SumReached (size : Size) (values distances : List Float) (cells : List ℕ) (limit : Float) (include : Bool) (met′ : List ℕ) (r : Float) : Type 0 where
+  pub met-length : length met′ ≡ count size
+  pub sum-is :
+      let alone = plus-values values plus-zero cells in
+      r ≡ cond include (plus-values values alone (adjacent size distances limit cells)) alone
+
+-- The values are lent too.
+pub record Summing (size : Size) (times values : List Float) (start : ℕ) (distances : List Float) (marks listed met queue : List ℕ) : Type 0 where
+  pub reaching : Reaching size times start distances marks listed met queue
+  pub values-length : length values ≡ count size
+
+-- The takes, whether refusal 7 applies, and the sum are those of the rules' run.
+pub record SummedFrom
+    (size : Size) (times values : List Float) (limit : Float) (include : Bool) (start : ℕ) (distances′ : List Float) (marks′ listed′ met′ queue′ : List ℕ) (r : MaskSum)
+    : Type 0 where
+  pub lengths : Lengths size distances′ marks′ listed′ met′ queue′
+  pub counted : r .takes ≡ run-from size times start .takes
+  pub over-is : r .over ≡ over-budget (grid size times) limit (run-from size times start) .0
+  pub sum-is : r .sum ≡ sum-of (grid size times) (grid size values) limit include (run-from size times start)
