@@ -1,5 +1,5 @@
 //! The file form's edges: what is refusal 8, what goes on to the library, and which refusal comes first.
-use case::gridfile;
+use case::{Answer, gridfile};
 use oracle::{Build, answer_file};
 
 struct File {
@@ -123,4 +123,13 @@ fn a_file_that_is_read_is_written_again() {
         let case = gridfile::read(&file.bytes()).expect("a grid file");
         assert_eq!(gridfile::write(&case), Some(file.bytes()));
     }
+}
+
+#[test]
+fn an_answer_with_a_cut_index_is_none() {
+    let refused = [field(0x10, &[6]), field(0x11, &7u32.to_le_bytes())].concat();
+    assert_eq!(gridfile::read_answer(&refused), Some(Answer::Refused { number: 6, index: Some(7) }));
+    assert_eq!(gridfile::read_answer(&field(0x10, &[3])), Some(Answer::Refused { number: 3, index: None }));
+    assert_eq!(gridfile::read_answer(&[field(0x10, &[6]), field(0x11, &[1, 2])].concat()), None);
+    assert_eq!(gridfile::read_answer(&[refused, vec![0]].concat()), None);
 }

@@ -1,0 +1,175 @@
+-- What a program may rely on in a request: it is proved from the definition, so that it holds of whatever meets the promise. Assumes nothing.
+use mathlib.Core.Path.{_≡_, refl, sym, ap, subst, _∙_}
+use mathlib.Core.Bool.{Bool, true, cond, _&&_}
+use mathlib.Core.List.{List, [], _∷_}
+use Prim.Native.Nat.{ℕ, zero, suc, _+_, _*_, _%_, _≤_}
+use native.Mathlib.Omega.{arith}
+use borrow.Author.Tests.{leb-true, leb-false, eqb-true}
+use lib.Dec.{leb, eqb}
+use lib.ListN.{length, drop, length-drop}
+use Rattle.rules.specs.Sizes.{count}
+use Rattle.gridfile.specs.Fields.{Part, part, Field, field, Fields, cut, whole, and-then, fields-after, fields-from, content-of, tags}
+use Rattle.gridfile.specs.Request.{Head, Grids, Request, Parsed, Good, Bad, grids-of, same, by-tag, head-of, flags-fit, numbers-fit, few-cells, head-fits, small-bytes, small-floats, grids-fit, as-request, parsed}
+use Rattle.gridfile.specs.Lookups.{has-head, Found, Exactly, Breach, grids-in}
+use Rattle.gridfile.proofs.Choices.{by-test, either, and-both, all-four}
+use Rattle.gridfile.proofs.Places.{cut-short}
+use Rattle.gridfile.proofs.Heads.{requested, as-judged, head-within}
+
+-- A part of the file ends within it.
+abbrev pub Inside : List ℕ → Part → Type 0
+Inside file p = p .start + p .len ≤ length file
+
+-- A grid's part: inside the file, and of at most 4,096 bytes.
+pub record Bytes-part (file : List ℕ) (p : Part) : Type 0 where
+  pub inside : Inside file p
+  pub small : p .len ≤ 4096
+
+-- A float grid's: also a multiple of 4.
+pub record Floats-part (file : List ℕ) (p : Part) : Type 0 where
+  pub inside : Inside file p
+  pub small : p .len ≤ 4096
+  pub fours : p .len % 4 ≡ 0
+
+pub record Usable (file : List ℕ) (r : Request) : Type 0 where
+  pub search-from : 1 ≤ r .search
+  pub search-to : r .search ≤ 8
+  pub few : count (r .size) ≤ 1024
+  pub targets : Bytes-part file (r .grids .targets)
+  pub obstacles : Bytes-part file (r .grids .obstacles)
+  pub times : Floats-part file (r .grids .times)
+  pub values : Floats-part file (r .grids .values)
+
+-- ---- the parts are inside the file
+
+-- Every field ends at n or before.
+abbrev All-end : ℕ → List Field → Type 0
+All-end n [] = Unit {0}
+All-end n (f ∷ fields) = (f .content .start + f .content .len ≤ n) × All-end n fields
+
+abbrev Ends : ℕ → Fields → Type 0
+Ends n cut = Unit {0}
+Ends n (whole fields) = All-end n fields
+
+one-ends : (n : ℕ) (f : Field) (rest : Fields) → f .content .start + f .content .len ≤ n → Ends n rest → Ends n (and-then f rest)
+one-ends n f cut ends others = tt
+one-ends n f (whole fields) ends others = (ends, others)
+
+-- The fields of bytes that start at a place end where the bytes do. Proof: by the bytes; a field whose content is longer than what is left is cut.
+fields-end : (n left at : ℕ) (bytes : List ℕ) → at + length bytes ≤ n → Ends n (fields-after left at bytes)
+unfolding fields-after
+fields-end n zero at [] room = tt
+fields-end n zero at (tag ∷ []) room = tt
+fields-end n zero at (tag ∷ low ∷ []) room = tt
+fields-end n zero at (tag ∷ low ∷ high ∷ bytes) room =
+    let len = low + 256 * high in
+    let f = field tag (part (at + 3) len) in
+    let rest : Ends n (fields-after len (at + 3) bytes) = fields-end n len (at + 3) bytes (omega arith) in
+    by-test (Ends n (and-then f (fields-after len (at + 3) bytes))) (leb len (length bytes))
+    (λ e. let long = leb-true len (length bytes) e in one-ends n f (fields-after len (at + 3) bytes) (omega arith) rest)
+    (λ e. subst (λ (w : Fields). Ends n (and-then f w)) (sym (cut-short len (at + 3) bytes (leb-false len (length bytes) e))) tt)
+fields-end n (suc left) at [] room = tt
+fields-end n (suc left) at (b ∷ bytes) room = fields-end n left (suc at) bytes (omega arith)
+
+content-ends : (n tag : ℕ) (fields : List Field) → All-end n fields → content-of tag fields .start + content-of tag fields .len ≤ n
+unfolding content-of
+content-ends n tag [] all = omega arith
+content-ends n tag (f ∷ fields) all = either (λ (p : Part). p .start + p .len ≤ n) (eqb (f .tag) tag) (all .0) (content-ends n tag fields (all .1))
+
+pub record All-inside (file : List ℕ) (g : Grids) : Type 0 where
+  pub targets : Inside file (g .targets)
+  pub obstacles : Inside file (g .obstacles)
+  pub times : Inside file (g .times)
+  pub values : Inside file (g .values)
+
+found-inside : (file : List ℕ) (search : ℕ) (w : Fields) (g : Grids) → Ends (length file) w → grids-in search w ≡ Exactly g → All-inside file g
+unfolding grids-in
+found-inside file search cut g ends e = let never : _≡_ {A = ℕ} 0 1 = cc in absurd (omega arith)
+found-inside file search (whole fields) g ends e =
+    by-test (All-inside file g) (same (tags fields) (grids-of search))
+    (λ exact.
+    let is : Exactly (by-tag fields) ≡ Exactly g = sym (ap (λ (t : Bool). cond t (Exactly (by-tag fields)) Breach) exact) ∙ e in
+    let is′ : by-tag fields ≡ g = cc in
+    subst (All-inside file) is′ (record {
+      targets = content-ends (length file) 0x04 fields ends;
+      obstacles = content-ends (length file) 0x05 fields ends;
+      times = content-ends (length file) 0x06 fields ends;
+      values = content-ends (length file) 0x07 fields ends;
+    }))
+    (λ other.
+    let is : Breach ≡ Exactly g = sym (ap (λ (t : Bool). cond t (Exactly (by-tag fields)) Breach) other) ∙ e in
+    let never : _≡_ {A = ℕ} 0 1 = cc in
+    absurd (omega arith))
+
+-- ---- a file that is accepted
+
+in-range : (a b c d e f : Bool) → a && b && c && d && e && f ≡ true → (a ≡ true) × (b ≡ true)
+in-range a b c d e f all = and-both a b (all-four (a && b) c d e (and-both (a && b && c && d && e) f all .0) .0)
+
+module _ (file : List ℕ) where
+  abbrev head : Head
+  head = head-of file 3 9 16
+
+  -- How a request came about.
+  pub record Came (r : Request) : Type 0 where
+    pub begins : has-head file ≡ true
+    pub exact : grids-in (head .search) (fields-from file 24) ≡ Exactly (r .grids)
+    pub fits : head-fits head ≡ true
+    pub small : grids-fit (r .grids) ≡ true
+    pub is : r ≡ as-request head (r .grids)
+
+  came-from : (r : Request) (found : Found) → has-head file ≡ true → grids-in (head .search) (fields-from file 24) ≡ found → requested head found ≡ Good r → Came r
+  came-from r Breach begins exact e = let never : _≡_ {A = ℕ} 0 1 = cc in absurd (omega arith)
+  came-from r (Exactly g) begins exact e =
+      by-test (Came r) (head-fits head && grids-fit g)
+      (λ fit.
+      let both = and-both (head-fits head) (grids-fit g) fit in
+      let is : Good (as-request head g) ≡ Good r = sym (ap (λ (t : Bool). cond t (Good (as-request head g)) Bad) fit) ∙ e in
+      let is′ : as-request head g ≡ r = cc in
+      subst Came is′ (record { begins = begins; exact = exact; fits = both .0; small = both .1; is = refl }))
+      (λ unfit.
+      let is : Bad ≡ Good r = sym (ap (λ (t : Bool). cond t (Good (as-request head g)) Bad) unfit) ∙ e in
+      let never : _≡_ {A = ℕ} 0 1 = cc in
+      absurd (omega arith))
+
+  came : (r : Request) → parsed file ≡ Good r → Came r
+  came r e =
+      let rest : Parsed = requested head (grids-in (head .search) (fields-from file 24)) in
+      by-test (Came r) (has-head file)
+      (λ begins. came-from r (grids-in (head .search) (fields-from file 24)) begins refl (sym (ap (λ (t : Bool). cond t rest Bad) begins) ∙ sym (as-judged file) ∙ e))
+      (λ other.
+      let is : Bad ≡ Good r = sym (ap (λ (t : Bool). cond t rest Bad) other) ∙ sym (as-judged file) ∙ e in
+      let never : _≡_ {A = ℕ} 0 1 = cc in
+      absurd (omega arith))
+
+  -- The tests that the head passed.
+  head-passed : head-fits head ≡ true → (1 ≤ head .search) × (head .search ≤ 8) × (head .rows * head .cols ≤ 1024)
+  unfolding head-fits
+  head-passed e =
+      let h = head in
+      let flags = flags-fit (h .search) (h .diagonals) (h .adjacent) in
+      let numbers = numbers-fit (h .search) (h .«cell_size») (h .limit) in
+      let parts = and-both (flags && numbers) (few-cells (h .rows) (h .cols)) e in
+      let range = in-range (leb 1 (h .search)) (leb (h .search) 8) (leb (h .diagonals) 1) (leb (h .adjacent) 1) _ _ (and-both flags numbers (parts .0) .0) in
+      (leb-true 1 (h .search) (range .0), leb-true (h .search) 8 (range .1), leb-true (h .rows * h .cols) 1024 (parts .1))
+
+  -- What a program may rely on.
+  pub usable : (r : Request) → parsed file ≡ Good r → Usable file r
+  unfolding grids-fit
+  usable r e =
+      let c = came r e in
+      let g = r .grids in
+      let ends = fields-end (length file) 0 24 (drop 24 file) (let room = head-within file (c .begins) in omega (arith, length-drop 24 file)) in
+      let inside = found-inside file (head .search) (fields-from file 24) g ends (c .exact) in
+      let numbers = head-passed (c .fits) in
+      let small = all-four (small-bytes (g .targets)) (small-bytes (g .obstacles)) (small-floats (g .times)) (small-floats (g .values)) (c .small) in
+      let times = and-both (leb (g .times .len) 4096) (eqb (g .times .len % 4) 0) (small .2) in
+      let values = and-both (leb (g .values .len) 4096) (eqb (g .values .len % 4) 0) (small .3) in
+      record {
+        search-from = subst (λ (q : Request). 1 ≤ q .search) (sym (c .is)) (numbers .0);
+        search-to = subst (λ (q : Request). q .search ≤ 8) (sym (c .is)) (numbers .1);
+        few = subst (λ (q : Request). count (q .size) ≤ 1024) (sym (c .is)) (numbers .2);
+        targets = record { inside = inside .targets; small = leb-true _ _ (small .0) };
+        obstacles = record { inside = inside .obstacles; small = leb-true _ _ (small .1) };
+        times = record { inside = inside .times; small = leb-true _ _ (times .0); fours = eqb-true _ _ (times .1) };
+        values = record { inside = inside .values; small = leb-true _ _ (values .0); fours = eqb-true _ _ (values .1) };
+      }
