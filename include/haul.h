@@ -198,6 +198,18 @@ uint32_t haul_sum_targets_within_travel_distance(
     uint64_t *takes,                             /* out: how many cells were taken from the queue, over all amounts */
     uint32_t *index);                            /* out, with HAUL_NEGATIVE_TIME */
 
+/* An output for `haul_answer` has at least so many bytes, those of the longest answer. */
+#define HAUL_ANSWER_MAX 4114
+
+/*
+ * The program `haul` as a call: a grid file goes in, its answer file comes out. A file that does not keep the form is
+ * answered by refusal 8. Returns how many bytes stand at the front of the output; what follows them there is as it was.
+ * Where the output is shorter than HAUL_ANSWER_MAX nothing is written, and 0 is returned.
+ */
+uint32_t haul_answer(
+    const uint8_t *input, size_t input_len, /* the grid file */
+    uint8_t *output, size_t output_len);    /* out: the answer file */
+
 #ifdef __cplusplus
 }
 #endif

@@ -22,6 +22,19 @@ pub struct Lent<'a> {
     pub queue: &'a mut [u32],
 }
 
+/// The bytes of the longest answer file.
+pub const ANSWER_MAX: usize = 4114;
+
+/// The program `haul` as a call: the answer to a grid file goes to the front of the output, and its length is given, or
+/// 0 where the output is shorter than [`ANSWER_MAX`].
+pub fn answer(input: &[u8], output: &mut [u8]) -> u32 {
+    unsafe extern "C" {
+        fn haul_answer(_: *const u8, _: usize, _: *mut u8, _: usize) -> u32;
+    }
+    // SAFETY: the export is proved safe for all slices that do not overlap, and a borrowed slice overlaps no mutable one.
+    unsafe { haul_answer(input.as_ptr(), input.len(), output.as_mut_ptr(), output.len()) }
+}
+
 /// For each search: its grids, its numbers and flags, its work buffers. All have the answer before the work buffers,
 /// and after them the queue, the takes and the index. A grid is passed as rows, columns, pointer and length, a lent
 /// slice as pointer and length.

@@ -1,6 +1,6 @@
 //! The searches, with all that they need allocated for the caller.
 use crate::workspace::cells_of;
-use crate::{BarrierDiagonals, Grid, Refusal, Sheet, Workspace};
+use crate::{BarrierDiagonals, Grid, Refusal, Sheet, Workspace, raw};
 
 /// Search 1: how far each cell is from the nearest target over open ground, at most `limit`.
 ///
@@ -96,4 +96,12 @@ fn sheet<T>(
     let mut cells = vec![0.0; cells_of(first)];
     let takes = search(&mut Workspace::new(), &mut cells)?;
     Ok(Sheet { rows: first.rows, columns: first.columns, cells, takes })
+}
+
+/// The answer file to a grid file, as the program `haul` writes it; refusals are answers too.
+pub fn answer_file(input: &[u8]) -> Vec<u8> {
+    let mut output = vec![0; raw::ANSWER_MAX];
+    let length = raw::answer(input, &mut output) as usize;
+    output.truncate(length);
+    output
 }

@@ -56,6 +56,17 @@ in-among v (w ∷ ws) (inr i) = ap (λ b. eqb v w || b) (in-among v ws i) ∙ or
 pub in-or-not : (v : ℕ) (ws : List ℕ) → In v ws ⊎ (In v ws → ⊥)
 in-or-not v ws = ⊎-elim (λ t. inl (among-in v ws t)) (λ f. inr (λ i. true-or-false (in-among v ws i) f)) (tested (among v ws))
 
+pub not-among : (v : ℕ) (ws : List ℕ) → (In v ws → ⊥) → among v ws ≡ false
+not-among v ws out = ⊎-elim (λ t. absurd (out (among-in v ws t))) (λ f. f) (tested (among v ws))
+
+-- Two lists that both have a cell, or neither, answer alike.
+pub among-alike : (v : ℕ) (l m : List ℕ) → (In v l → In v m) → (In v m → In v l) → among v l ≡ among v m
+among-alike v l m to from =
+    ⊎-elim
+    (λ t. t ∙ sym (in-among v m (to (among-in v l t))))
+    (λ f. f ∙ sym (not-among v m (λ i. true-or-false (in-among v l (from i)) f)))
+    (tested (among v l))
+
 -- Membership in a list that goes on.
 pub in-front : {A : Type 0} (a : A) (l m : List A) → In a l → In a (l ++ m)
 in-front a [] m i = absurd i
@@ -76,10 +87,7 @@ in-map g b [] i = absurd i
 in-map g b (a ∷ l) (inl p) = (a, inl refl, p)
 in-map g b (a ∷ l) (inr i) = let r = in-map g b l i in (r .0, inr (r .1), r .2)
 
--- What `among` says of a cell that is not in the list, of another cell than the first or the last, and of the last.
-pub not-among : (c : ℕ) (l : List ℕ) → (In c l → ⊥) → among c l ≡ false
-not-among c l out = ⊎-elim (λ t. absurd (out (among-in c l t))) (λ f. f) (tested (among c l))
-
+-- What `among` says of another cell than the first or the last, and of the last.
 pub among-other : (c v : ℕ) (l : List ℕ) → (c ≡ v → ⊥) → among c (l ++ v ∷ []) ≡ among c l
 unfolding among
 among-other c v [] other = ap (λ b. b || false) (ne-eqb c v other)
@@ -91,14 +99,6 @@ among-tail c v l other = ap (λ b. b || among c l) (ne-eqb c v other)
 
 pub among-last : (v : ℕ) (l : List ℕ) → among v (l ++ v ∷ []) ≡ true
 among-last v l = in-among v (l ++ v ∷ []) (in-back v l (v ∷ []) (inl refl))
-
--- Two lists that both have a cell, or neither, answer alike.
-pub among-alike : (v : ℕ) (l m : List ℕ) → (In v l → In v m) → (In v m → In v l) → among v l ≡ among v m
-among-alike v l m to from =
-    ⊎-elim
-    (λ t. t ∙ sym (in-among v m (to (among-in v l t))))
-    (λ f. f ∙ sym (not-among v m (λ i. true-or-false (in-among v l (from i)) f)))
-    (tested (among v l))
 
 -- A cell that joins is at the end, once.
 pub joined-waiting : (v : ℕ) (ws : List ℕ) → among v ws ≡ true → joined v ws ≡ ws

@@ -6,4 +6,5 @@ pub mod Steps
 pub mod Stores
 pub mod ReadBack
 pub mod Requests
+pub mod LongFiles
 pub mod Cases

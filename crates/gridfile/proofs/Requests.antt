@@ -6,6 +6,8 @@ use Prim.Native.Nat.{ℕ, zero, suc, _+_, _*_, _%_, _≤_}
 use native.Mathlib.Omega.{arith}
 use borrow.Author.Tests.{leb-true, leb-false, eqb-true}
 use lib.Dec.{leb, eqb}
+use lib.IntN.{pos}
+use lib.Signed.{mag}
 use lib.ListN.{length, drop, length-drop}
 use Rattle.rules.specs.Sizes.{count}
 use Rattle.gridfile.specs.Fields.{Part, part, Field, field, Fields, cut, whole, and-then, fields-after, fields-from, content-of, tags}
@@ -33,6 +35,8 @@ pub record Floats-part (file : List ℕ) (p : Part) : Type 0 where
 pub record Usable (file : List ℕ) (r : Request) : Type 0 where
   pub search-from : 1 ≤ r .search
   pub search-to : r .search ≤ 8
+  pub rows-natural : r .size .rows ≡ pos (mag (r .size .rows))
+  pub cols-natural : r .size .cols ≡ pos (mag (r .size .cols))
   pub few : count (r .size) ≤ 1024
   pub targets : Bytes-part file (r .grids .targets)
   pub obstacles : Bytes-part file (r .grids .obstacles)
@@ -131,7 +135,7 @@ module _ (file : List ℕ) where
       let never : _≡_ {A = ℕ} 0 1 = cc in
       absurd (omega arith))
 
-  came : (r : Request) → parsed file ≡ Good r → Came r
+  pub came : (r : Request) → parsed file ≡ Good r → Came r
   came r e =
       let rest : Parsed = requested head (grids-in (head .search) (fields-from file 24)) in
       by-test (Came r) (has-head file)
@@ -167,6 +171,8 @@ module _ (file : List ℕ) where
       record {
         search-from = subst (λ (q : Request). 1 ≤ q .search) (sym (c .is)) (numbers .0);
         search-to = subst (λ (q : Request). q .search ≤ 8) (sym (c .is)) (numbers .1);
+        rows-natural = subst (λ (q : Request). q .size .rows ≡ pos (mag (q .size .rows))) (sym (c .is)) refl;
+        cols-natural = subst (λ (q : Request). q .size .cols ≡ pos (mag (q .size .cols))) (sym (c .is)) refl;
         few = subst (λ (q : Request). count (q .size) ≤ 1024) (sym (c .is)) (numbers .2);
         targets = record { inside = inside .targets; small = leb-true _ _ (small .0) };
         obstacles = record { inside = inside .obstacles; small = leb-true _ _ (small .1) };

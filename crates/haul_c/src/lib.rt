@@ -3,6 +3,7 @@
 // A slice passes as a pointer and then a length. The result is 0, or the number of document 01's
 // refusal. `takes` is written on acceptance only, `index` only with a refusal that has one.
 mod by_distance;
+mod by_file;
 mod by_sum;
 mod by_value;
 mod report;
@@ -10,6 +11,7 @@ mod report;
 pub use by_distance::haul_distance_with_obstacles;
 pub use by_distance::haul_distances_up_to;
 pub use by_distance::haul_travel_distances_up_to;
+pub use by_file::haul_answer;
 pub use by_sum::haul_sum_targets_within_travel_distance;
 pub use by_sum::haul_sum_within_travel_distance;
 pub use by_value::haul_value_at_closest_less_than_travel_target;

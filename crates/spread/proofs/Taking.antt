@@ -18,7 +18,6 @@ use Rattle.rules.specs.Values.{Carried}
 use Rattle.spread.specs.declared.search.Rule.{Rule}
 use Rattle.spread.specs.declared.search.Search.{Search}
 use Rattle.spread.specs.declared.relax.Left.{Left}
-use Rattle.spread.specs.declared.take.Took.{Took}
 use Rattle.spread.specs.Nets.{carries}
 use Rattle.spread.specs.Steps.{Terrain, labelled, straight-steps, diagonal-steps, Follows}
 use Rattle.spread.specs.Waiting.{Waiting, SomeWait, TookFirst}

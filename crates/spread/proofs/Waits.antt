@@ -1,5 +1,5 @@
 -- The cells that wait: a cell that joins, begins or is taken keeps the marks and the ring in agreement. Assumes nothing.
-use mathlib.Core.Bool.{Bool, true, false, cond, _||_}
+use mathlib.Core.Bool.{Bool, true, false, cond}
 use mathlib.Core.List.{List, [], _∷_, _++_, append-nil}
 use mathlib.Core.Logic.{inl, inr, ⊎-elim}
 use mathlib.Core.Path.{_≡_, refl, sym, ap, _∙_}
@@ -14,7 +14,7 @@ use Rattle.cells.specs.declared.ring.Ring.{Ring}
 use Rattle.cells.specs.declared.ring.Taken.{Taken}
 use Rattle.fifo.specs.Machine.{among, passing}
 use Rattle.fifo.specs.Walk.{In, NoDup}
-use Rattle.fifo.proofs.Lists.{tested, true-or-false, same-or-not, among-in, in-among, in-back, in-either, joined-waiting, joined-new, no-dup-joined, no-dup-no-longer, in-passing, length-passing, not-among, among-other, among-tail, among-last}
+use Rattle.fifo.proofs.Lists.{true-or-false, same-or-not, in-among, in-either, joined-waiting, joined-new, no-dup-joined, no-dup-no-longer, in-passing, length-passing, not-among, among-other, among-tail, among-last}
 use Rattle.spread.specs.Waiting.{border, Waiting, Beginning, Began, Joining, Joined, TookFirst}
 
 -- ---- marks and ring

@@ -4,6 +4,9 @@
 // promises the labels and the takes of the rule's net, whatever the buffers held before
 // (specs/Promise.antt). Each function below it promises that the buffers hold, after it, the machine's
 // operation on the state that they held before (specs/Buffers.antt).
+//
+// `begin_cells` and `take_cell` are for a loop of one's own that does something with each cell that is
+// taken: proofs/Running.antt and proofs/Tracing.antt have the laws for it.
 mod begin;
 mod first;
 mod formulas;

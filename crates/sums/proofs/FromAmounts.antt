@@ -1,21 +1,18 @@
 -- The searches from the amounts: one, and all of them in row order. Assumes nothing.
-use mathlib.Core.Bool.{Bool, true, false, cond, not, _&&_, false≢true}
+use mathlib.Core.Bool.{true, false, cond}
 use mathlib.Core.List.{List, foldl}
-use mathlib.Core.Path.{_≡_, refl, sym, ap, _∙_, subst}
-use Prim.Native.Nat.{ℕ, zero, suc, _+_, _*_, _≤_, _<_}
-use native.Mathlib.Omega.{arith}
-use lib.Dec.{T}
+use mathlib.Core.Path.{_≡_, refl, sym, ap, _∙_}
+use Prim.Native.Nat.{ℕ, _+_, _<_}
 use lib.Ieee.{Float}
 use lib.ListN.{length, replicate, length-replicate}
 use mir.Syntax.{w64}
 use mir.Val.{Fits}
 use Rattle.binary32.specs.Numbers.{plus-zero}
 use Rattle.fifo.specs.Machine.{passing, takes-of}
-use Rattle.fifo.specs.Simulation.{Within}
 use Rattle.rules.specs.declared.Size.{Size}
-use Rattle.rules.specs.Sizes.{in-bounds, count}
+use Rattle.rules.specs.Sizes.{count}
 use Rattle.rules.specs.Distances.{float}
-use Rattle.rules.specs.Sums.{Run, run-of, total-takes, from-amount, counts, runs-8, gaining, gain, gains}
+use Rattle.rules.specs.Sums.{Run, run-of, from-amount, counts, runs-8, gaining, gain, gains}
 use Rattle.rules.proofs.Totals.{summed-takes}
 use Rattle.calls.specs.Given.{grid}
 use Rattle.spread.specs.declared.search.Rule.the-variants.{FromAmount}
@@ -27,7 +24,7 @@ use Rattle.spread.specs.Promise.{grids, Spreads}
 use Rattle.spread.proofs.Running.{begun-ready, begun-runs}
 use Rattle.spread.proofs.Agrees.{amount-agrees}
 use Rattle.sums.specs.Gain.{gaining-of, Gaining, GainedAll}
-use Rattle.sums.specs.FromAmounts.{Lengths, Ways, Searching, SearchedAmount, SearchedCell, SearchingCell, SearchingAll, SearchedAll}
+use Rattle.sums.specs.FromAmounts.{Lengths, Searching, SearchedAmount, SearchedCell, SearchingAll, SearchedAll}
 use Rattle.sums.proofs.Endings.{spreads-by-times, ends-as}
 use Rattle.sums.proofs.Starts.{runs-to, fold-next, total-next, total-fits, total-of-runs}
 

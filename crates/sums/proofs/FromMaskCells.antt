@@ -1,16 +1,16 @@
 -- The search from one mask cell: the cells that it reached are those of the rules, and so is their sum. Assumes nothing.
 use mathlib.Core.Bool.{Bool, true, false, cond, _&&_}
-use mathlib.Core.List.{List, [], _∷_, map}
-use mathlib.Core.Logic.{inl, ⊎-elim}
+use mathlib.Core.List.{List, [], _∷_}
+use mathlib.Core.Logic.{⊎-elim}
 use mathlib.Core.Path.{_≡_, refl, sym, ap, _∙_, subst}
 use Prim.Native.Nat.{ℕ, _*_, _<_}
 use native.Mathlib.Omega.{arith}
 use borrow.Author.Tests.{eq-eqb}
-use lib.Dec.{T, eqb}
+use lib.Dec.{eqb}
 use lib.Ieee.{Float}
 use lib.ListN.{length, replicate, take}
 use Rattle.binary32.specs.Numbers.{plus-zero}
-use Rattle.fifo.specs.Machine.{among, joined, passing, initial, finish}
+use Rattle.fifo.specs.Machine.{among, joined, initial, finish}
 use Rattle.fifo.specs.Walk.{In}
 use Rattle.fifo.proofs.Lists.{tested, holds, in-among, in-passing, joined-waiting}
 use Rattle.fifo.proofs.Induction.{run-stopped}
@@ -18,7 +18,7 @@ use Rattle.fifo.proofs.Entries.{entered-stays, entered-as-taken}
 use Rattle.rules.specs.declared.Size.{Size}
 use Rattle.rules.specs.Sizes.{Grid, any, count}
 use Rattle.rules.specs.Distances.{has-data}
-use Rattle.rules.specs.Sums.{run-of, from-mask-cell, listed, over-budget, sum-of, add-values, adjacent-cells}
+use Rattle.rules.specs.Sums.{run-of, from-mask-cell, listed, sum-of, add-values, adjacent-cells}
 use Rattle.rules.proofs.Squares.{mask-cell-idle}
 use Rattle.calls.specs.Given.{grid}
 use Rattle.spread.specs.declared.search.Rule.the-variants.{FromMaskCell}
@@ -33,13 +33,13 @@ use Rattle.spread.proofs.Running.{begun-ready, begun-runs}
 use Rattle.spread.proofs.Agrees.{mask-cell-agrees}
 use Rattle.reach.specs.Listing.{Listing, Joining, Joined, Cells}
 use Rattle.reach.specs.Summing.{plus-values, above}
-use Rattle.reach.specs.Adjacent.{adjacent, Fitting, Beside, AddedAdjacent}
+use Rattle.reach.specs.Adjacent.{adjacent, Beside, AddedAdjacent}
 use Rattle.reach.proofs.Listings.{listing-none, joining, listing-joined, listing-cells}
 use Rattle.reach.proofs.Around.{listing-beside}
 use Rattle.reach.proofs.Rules.{values-are, adjacent-are}
 use Rattle.sums.specs.declared.listing.Reached.{Reached}
 use Rattle.sums.specs.Listed.{each-once, Lists, ListedAll}
-use Rattle.sums.specs.FromMask.{Lengths, Ways, Reaching, run-from, ReachedFrom, SumReached, Summing, SummedFrom}
+use Rattle.sums.specs.FromMask.{Reaching, run-from, ReachedFrom, SumReached, Summing, SummedFrom}
 use Rattle.sums.proofs.Endings.{EndsAs, spreads-by-times, ends-as}
 
 -- ---- the list

@@ -3,7 +3,6 @@ use mathlib.Core.Bool.{Bool, true, false, not}
 use mathlib.Core.List.{List, [], _∷_, _++_, map, map-append, foldl, foldl-append}
 use mathlib.Core.Path.{_≡_, sym, ap, _∙_, subst}
 use Prim.Native.Nat.{ℕ, _+_}
-use lib.Ieee.{Float}
 use lib.ListN.{length}
 use Rattle.cells.specs.Ring.{SaysEmpty}
 use Rattle.fifo.specs.Machine.{Net, joined}

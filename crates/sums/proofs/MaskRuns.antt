@@ -1,7 +1,7 @@
 -- The searches from the mask cells in row order, and refusal 7 at the first that is over the budget. Assumes nothing.
 use mathlib.Core.Bool.{Bool, true, false, cond, false≢true}
 use mathlib.Core.List.{List, [], _∷_, _++_, map, map-append, foldl}
-use mathlib.Core.Path.{_≡_, refl, sym, ap, _∙_, subst}
+use mathlib.Core.Path.{_≡_, refl, sym, ap, _∙_}
 use Prim.Native.Nat.{ℕ, _+_, _<_}
 use native.Mathlib.Omega.{arith}
 use lib.Ieee.{Float}
@@ -11,7 +11,7 @@ use mir.Val.{Fits}
 use Rattle.binary32.specs.Numbers.{plus-zero}
 use Rattle.fifo.specs.Machine.{passing}
 use Rattle.rules.specs.declared.Size.{Size}
-use Rattle.rules.specs.Sizes.{Grid, Refusal, number-at, Judged, passes, stops, Outcome, accepted, unless, first-that-holds, count}
+use Rattle.rules.specs.Sizes.{Grid, Refusal, number-at, Judged, passes, stops, accepted, unless, first-that-holds, count}
 use Rattle.rules.specs.Distances.{target}
 use Rattle.rules.specs.Sums.{Run, run-of, total-takes, from-mask-cell, runs-7, over-budget, sum-of, sums, refusal-7}
 use Rattle.rules.proofs.Totals.{summed-takes}

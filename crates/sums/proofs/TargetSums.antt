@@ -1,9 +1,9 @@
 -- Search 8 from its tests to its promise. Assumes nothing.
-use mathlib.Core.Bool.{true, false}
+use mathlib.Core.Bool.{false}
 use mathlib.Core.List.{List, [], _∷_}
 use mathlib.Core.Logic.{⊎-elim}
-use mathlib.Core.Path.{_≡_, refl, sym, ap, _∙_, subst}
-use Prim.Native.Nat.{ℕ, _*_, _≤_, zero-le}
+use mathlib.Core.Path.{_≡_, sym, ap, _∙_, subst}
+use Prim.Native.Nat.{ℕ, _*_, zero-le}
 use lib.Dec.{T}
 use lib.Ieee.{Float, nan, binary32, fits}
 use lib.ListN.{length, getD, replicate, length-replicate}
@@ -33,7 +33,7 @@ use Rattle.calls.proofs.Shapes.{shaped}
 use Rattle.calls.proofs.Untouched.{judged-writes, searched-is, buffer-untouched}
 use Rattle.calls.proofs.Promises.{promised-refused}
 use Rattle.spread.proofs.Results.{laws-within}
-use Rattle.sums.specs.FromAmounts.{Searching, SearchingAll, SearchedAll}
+use Rattle.sums.specs.FromAmounts.{SearchingAll, SearchedAll}
 use Rattle.sums.specs.Promise.{PromisedGains, Sums, summed}
 
 -- ---- before the search

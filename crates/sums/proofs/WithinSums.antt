@@ -1,14 +1,14 @@
 -- Search 7 from its tests to its promise. Assumes nothing.
-use mathlib.Core.Bool.{Bool, true, false}
+use mathlib.Core.Bool.{Bool, false}
 use mathlib.Core.List.{List, [], _∷_}
 use mathlib.Core.Path.{_≡_, refl, sym, ap, _∙_, subst}
-use Prim.Native.Nat.{ℕ, _*_}
+use Prim.Native.Nat.{ℕ}
 use lib.Dec.{T}
 use lib.Ieee.{Float, nan, binary32, fits}
 use lib.ListN.{length, getD, replicate, length-replicate}
 use Rattle.binary32.specs.Numbers.{plus-zero}
 use Rattle.rules.specs.declared.Size.{Size}
-use Rattle.rules.specs.Sizes.{Judged, Lent, Outcome, accepted, passes, unless, count}
+use Rattle.rules.specs.Sizes.{Judged, Lent, Outcome, accepted, passes, unless}
 use Rattle.rules.specs.Sums.{total-takes, from-mask-cell, runs-7, sums, refusals-7, refusal-7}
 use Rattle.rules.proofs.Accepted.{accepted-7}
 use Rattle.rules.proofs.Nets.{mask-cell-laws}

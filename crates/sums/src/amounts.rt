@@ -47,7 +47,6 @@ fn search_amount(
     let bytes = [0; 1];
     let values = [0.0; 1];
     let mut carried = [0.0; 1];
-    zero_bytes(added);
     let ring = begin_cells(
         search,
         &bytes,
@@ -58,6 +57,7 @@ fn search_amount(
         marks,
         queue,
     );
+    zero_bytes(added);
     run_gaining(
         search,
         &bytes,

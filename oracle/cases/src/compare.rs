@@ -15,6 +15,8 @@ use crate::random::Random;
 pub enum Side {
     Oracle(Build),
     Library(fn(&Case) -> Answer),
+    /// A grid file goes in, an answer file comes out, in this process.
+    Files(fn(&[u8]) -> Vec<u8>),
     Program(PathBuf),
 }
 
@@ -35,16 +37,17 @@ impl Side {
                 Ok(case) => answer(&case),
                 Err(gridfile::NotAFile) => Answer::Refused { number: 8, index: None },
             })),
+            Side::Files(answer) => Ok(answer(input)),
             Side::Program(path) => run(path, input).map_err(|error| format!("{}: {error}", path.display())),
         }
     }
 
-    /// `None` for a program, which takes files only.
+    /// `None` for what takes files only.
     fn call(&self, case: &Case) -> Option<Answer> {
         match self {
             Side::Oracle(build) => Some(answer(case, *build, Reading::Document)),
             Side::Library(answer) => Some(answer(case)),
-            Side::Program(_) => None,
+            Side::Files(_) | Side::Program(_) => None,
         }
     }
 }

@@ -4,6 +4,7 @@ pub mod compare;
 pub mod generate;
 pub mod random;
 pub mod readings;
+pub mod options;
 pub mod stored;
 pub mod theorems;
 

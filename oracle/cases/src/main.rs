@@ -3,8 +3,9 @@ use std::path::Path;
 use std::process::ExitCode;
 
 use case::{Search, draw, gridfile, plain};
-use cases::compare::{Seen, Side, compare};
-use cases::generate::{Sizes, generate};
+use cases::compare::Side;
+use cases::generate::generate;
+use cases::options::{Options, number, read_search, run_compare};
 use cases::{readings, stored, theorems};
 use oracle::{Build, Reading, answer};
 
@@ -32,7 +33,7 @@ fn main() -> ExitCode {
     let words: Vec<&str> = words.iter().map(String::as_str).collect();
     let done = match words[..] {
         ["compare", first, second, ref options @ ..] => {
-            Options::read(options).and_then(|options| run_compare([first, second], &options))
+            Options::read(options).and_then(|options| run_compare([first, second], Side::named, &options))
         }
         ["show", search, index, ref options @ ..] => {
             Options::read(options).and_then(|options| show(search, index, &options))
@@ -60,72 +61,6 @@ fn main() -> ExitCode {
             ExitCode::FAILURE
         }
     }
-}
-
-struct Options {
-    search: Option<Search>,
-    cases: u64,
-    seed: u64,
-    sizes: Sizes,
-}
-
-impl Options {
-    fn read(mut words: &[&str]) -> Result<Options, String> {
-        let mut options = Options { search: None, cases: 1000, seed: 1, sizes: Sizes::File };
-        loop {
-            words = match words {
-                [] => return Ok(options),
-                ["--large", rest @ ..] => {
-                    options.sizes = Sizes::Large;
-                    rest
-                }
-                ["--search", word, rest @ ..] => {
-                    options.search = Some(read_search(word)?);
-                    rest
-                }
-                ["--cases", word, rest @ ..] => {
-                    options.cases = number(word)?;
-                    rest
-                }
-                ["--seed", word, rest @ ..] => {
-                    options.seed = number(word)?;
-                    rest
-                }
-                [word, ..] => return Err(format!("`{word}` is no option, or lacks its number; see `cases help`")),
-            };
-        }
-    }
-}
-
-fn number(word: &str) -> Result<u64, String> {
-    word.parse().map_err(|_| format!("`{word}` is no number"))
-}
-
-fn read_search(word: &str) -> Result<Search, String> {
-    word.parse().ok().and_then(Search::from_number).ok_or_else(|| format!("`{word}` is no search: they are 1 to 8"))
-}
-
-fn run_compare(names: [&str; 2], options: &Options) -> Result<(), String> {
-    let sides = names.map(Side::named);
-    for search in Search::ALL {
-        if options.search.is_none_or(|only| only == search) {
-            let seen = compare(&sides, search, options.sizes, options.seed, options.cases)?;
-            println!("search {}: {} and {} agree: {}", search.number(), names[0], names[1], summary(&seen));
-        }
-    }
-    Ok(())
-}
-
-fn summary(seen: &Seen) -> String {
-    let mut parts = vec![format!("{} files ({} damaged), {} calls", seen.files, seen.damaged, seen.calls)];
-    if seen.not_fed > 0 {
-        parts.push(format!("{} NOT FED, as no grid file holds them", seen.not_fed));
-    }
-    parts.extend(seen.statuses.iter().map(|(status, count)| match status {
-        0 => format!("{count} accepted with {} takes", seen.takes),
-        number => format!("{count} refused by {number}"),
-    }));
-    parts.join(", ")
 }
 
 fn show(search: &str, index: &str, options: &Options) -> Result<(), String> {

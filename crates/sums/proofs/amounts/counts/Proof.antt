@@ -1,5 +1,5 @@
 -- `amounts::counts` meets its contract. Assumes nothing.
-use mathlib.Core.Bool.{not, _&&_}
+use mathlib.Core.Bool.{not}
 use mathlib.Core.Path.{sym, ap, _∙_}
 use lib.Ieee.{ne}
 use Rattle.sums.proofs.Gains.{and-first, and-second}

@@ -1,0 +1,118 @@
+-- From what a search answered to the bytes of its outcome. Assumes nothing.
+use mathlib.Core.Path.{_≡_, refl, sym, ap, subst, _∙_}
+use mathlib.Core.Bool.{Bool, cond}
+use mathlib.Core.List.{List, [], _++_}
+use Prim.Native.Nat.{ℕ, _≤_, _<_}
+use native.Mathlib.Omega.{arith}
+use borrow.Author.Tests.{le-leb, lt-leb}
+use lib.Ieee.{Float}
+use lib.ListN.{length, take, length-append}
+use Rattle.rules.specs.Sizes as rules
+use Rattle.rules.specs.Sizes.{number, number-at, Outcome, refused, accepted}
+use Rattle.calls.specs.declared.answer.Answer.{Answer}
+use Rattle.calls.specs.declared.answer.Answer.the-variants.{Accepted, Refused}
+use Rattle.calls.specs.declared.answer.Refusal.{Refusal}
+use Rattle.calls.specs.Answer.{refusal-number, refusal, takes}
+use Rattle.calls.specs.Promise.{Slice, Promised}
+use Rattle.gridfile.specs.declared.request.Request.{Request}
+use Rattle.gridfile.specs.declared.request.Parsed.{Parsed}
+use Rattle.gridfile.specs.declared.request.Parsed.the-variants.{Good}
+use Rattle.gridfile.specs.Request.{parsed}
+use Rattle.gridfile.specs.Contents.{bytes-in, floats-in, written-out, asked}
+use Rattle.gridfile.specs.Answers.{Written, number-field, grid-field, answer-file}
+use Rattle.gridfile.proofs.Stores.{number-field-long, grid-field-long}
+use Rattle.answer.specs.Answering.{outcome-of, longest, Sent, Answered}
+use Rattle.answer.specs.Lending.{stated, Told, found}
+use Rattle.answer.proofs.Lengths.{front}
+
+-- ---- the answer of a search is its outcome
+
+same-refusal : (r s : rules.Refusal) → refusal r ≡ refusal s → r ≡ s
+same-refusal r s e = cc
+
+same-takes : (t u : ℕ) → takes t ≡ takes u → t ≡ u
+same-takes t u e = cc
+
+no-takes : (r : rules.Refusal) (t : ℕ) → refusal r ≡ takes t → ⊥
+no-takes r t e = let never : _≡_ {A = ℕ} 0 1 = cc in omega arith
+
+-- A call that keeps its promise answers, with its answer slice, what its outcome is. Proof: it says the outcome's refusal or takes, which
+-- decides the case; and an accepted call's answer slice is the outcome's grid.
+pub stated-is : (outcome : Outcome) (r : Answer) {answer : Slice Float} {marks queue : Slice ℕ} → Promised outcome r answer marks queue → stated r (answer .after) ≡ outcome
+stated-is (refused s) (Refused x) p = ap refused (same-refusal (refusal-number x) s (p .says))
+stated-is (refused s) (Accepted counts) p = absurd (no-takes s (counts .takes) (sym (p .says)))
+stated-is (accepted t grid) (Refused x) p = absurd (no-takes (refusal-number x) t (p .says))
+stated-is (accepted t grid) (Accepted counts) {answer} p =
+    ap (λ (u : ℕ). accepted u (answer .after)) (same-takes (counts .takes) t (p .says)) ∙ ap (accepted t) (p .answer-left)
+
+-- ---- no answer is longer than the longest
+
+module _ {before after : List ℕ} {count : ℕ} where
+  pub short-refused : (k : ℕ) → Written (answer-file (refused (number k))) before after count → Told (refused (number k)) before after count
+  short-refused k w = record { written = w; short = let all = w .all in let four = number-field-long 0x10 1 k in omega arith }
+
+  pub short-refused-at : (k i : ℕ) → Written (answer-file (refused (number-at k i))) before after count → Told (refused (number-at k i)) before after count
+  short-refused-at k i w = record {
+    written = w;
+    short =
+        let all = w .all in
+        let four = number-field-long 0x10 1 k in
+        let seven = number-field-long 0x11 4 i in
+        let both = length-append (number-field 0x10 1 k) (number-field 0x11 4 i) in
+        omega arith;
+  }
+
+  pub short-accepted : (t : ℕ) (grid : List Float) → length grid ≤ 1024 → Written (answer-file (accepted t grid)) before after count → Told (accepted t grid) before after count
+  short-accepted t grid few w = record {
+    written = w;
+    short =
+        let all = w .all in
+        let four = number-field-long 0x10 1 0 in
+        let eleven = number-field-long 0x12 8 t in
+        let cells = grid-field-long 0x13 grid in
+        let first = length-append (number-field 0x10 1 0) (number-field 0x12 8 t) in
+        let both = length-append (number-field 0x10 1 0 ++ number-field 0x12 8 t) (grid-field 0x13 grid) in
+        omega arith;
+  }
+
+-- ---- what was written is what is meant
+
+module _ {before after : List ℕ} {count : ℕ} where
+  -- By the case that the code is in.
+  pub of-refusal : {is x : Refusal} → is ≡ x → Told (refused (refusal-number x)) before after count → Told (refused (refusal-number is)) before after count
+  of-refusal e sent = subst (λ (x : Refusal). Told (refused (refusal-number x)) before after count) (sym e) sent
+
+  pub of-answer : {is x : Answer} (cells : List Float) → is ≡ x → Told (stated x cells) before after count → Told (stated is cells) before after count
+  of-answer cells e sent = subst (λ (x : Answer). Told (stated x cells) before after count) (sym e) sent
+
+  -- The answer slice is the front of an array.
+  pub of-front :
+      (r : Answer) {meant : Outcome} (n : ℕ) (cells rest : List Float) → length cells ≡ n → stated r cells ≡ meant
+      → Told (stated r (take n (cells ++ rest))) before after count → Told meant before after count
+  of-front r n cells rest long is sent = subst (λ (o : Outcome). Told o before after count) (ap (stated r) (front n cells rest long) ∙ is) sent
+
+  -- On the grids that stand in the file.
+  pub on-grids :
+      (file : List ℕ) (request : Request) {targets obstacles : List ℕ} {times values : List Float}
+      → targets ≡ bytes-in file (request .grids .targets) → obstacles ≡ bytes-in file (request .grids .obstacles)
+      → times ≡ floats-in file (request .grids .times) → values ≡ floats-in file (request .grids .values)
+      → Told (found request targets obstacles times values) before after count → Told (outcome-of (written-out file (Good request))) before after count
+  on-grids file request {targets} {obstacles} {times} {values} ts os tis vs sent =
+      subst (λ (v : List Float). Told (found request (bytes-in file (request .grids .targets)) (bytes-in file (request .grids .obstacles)) (floats-in file (request .grids .times)) v) before after count) vs
+      (subst (λ (ti : List Float). Told (found request (bytes-in file (request .grids .targets)) (bytes-in file (request .grids .obstacles)) ti values) before after count) tis
+      (subst (λ (o : List ℕ). Told (found request (bytes-in file (request .grids .targets)) o times values) before after count) os
+      (subst (λ (t : List ℕ). Told (found request t obstacles times values) before after count) ts sent)))
+
+  -- Of a file that was read so.
+  pub of-file : (file : List ℕ) {is : Parsed} → parsed file ≡ is → longest ≤ length before → Told (outcome-of (written-out file is)) before after count → Answered file before after count
+  of-file file {is} read long sent =
+      subst (λ (bytes : List ℕ). Sent bytes before after count)
+      (ap (λ (p : Parsed). answer-file (outcome-of (written-out file p))) (sym read) ∙ ap (λ (t : Bool). cond t (answer-file (outcome-of (asked file))) []) (sym (le-leb longest (length before) long)))
+      sent
+
+-- An output that is too short is left as it is.
+pub too-short : (file before : List ℕ) → length before < longest → Answered file before before 0
+too-short file before short =
+    subst (λ (bytes : List ℕ). Sent bytes before before 0)
+    (ap (λ (t : Bool). cond t (answer-file (outcome-of (asked file))) []) (sym (lt-leb longest (length before) short)))
+    (record { written = record { held = refl; all = refl }; short = omega arith })

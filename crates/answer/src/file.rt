@@ -1,0 +1,27 @@
+// The answer of a file.
+use crate::grids::answer_request;
+use gridfile::Parsed;
+use gridfile::parse;
+use gridfile::write_refused;
+ghost use Rattle.answer.specs.Answering.{Answered};
+
+// The bytes of the longest answer: the status, the takes, and a grid of 1,024 cells.
+pub const LONGEST: usize = 4114;
+
+// The number that the file form is refused with.
+const BAD_FILE: u8 = 8;
+
+// Writes the answer of a file to the front of the output, and gives its length. Where the output is
+// shorter than the longest answer nothing is written, and the length is 0.
+pub fn answer_file(input: &[u8], output: &mut [u8]) -> usize
+    ensures { λ r. ⌜ Answered (now (input .entry)) (now (output .entry)) (now (output .exit)) r ⌝ }
+{
+    if output.len() < LONGEST {
+        return 0;
+    }
+    let parsed = parse(input);
+    let Parsed::Good(request) = parsed else {
+        return write_refused(BAD_FILE, output);
+    };
+    answer_request(request, input, output)
+}

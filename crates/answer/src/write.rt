@@ -1,0 +1,40 @@
+// The bytes of what a search answered.
+use calls::Answer;
+use calls::Refusal;
+use gridfile::write_accepted;
+use gridfile::write_refused;
+use gridfile::write_refused_at;
+ghost use Prim.Native.Nat.{_≤_};
+ghost use lib.ListN.{length};
+ghost use Rattle.rules.specs.Sizes.{refused};
+ghost use Rattle.calls.specs.Answer.{refusal-number};
+ghost use Rattle.answer.specs.Answering.{longest};
+ghost use Rattle.answer.specs.Lending.{stated, Told};
+
+// Writes the number of a refusal, with its index where it has one.
+fn write_refusal(refusal: Refusal, output: &mut [u8]) -> usize
+    requires { ⌜ longest ≤ length (now output) ⌝ }
+    ensures { λ r. ⌜ Told (refused (refusal-number refusal)) (now (output .entry)) (now (output .exit)) r ⌝ }
+{
+    match refusal {
+        Refusal::SizeOutOfBounds => write_refused(1, output),
+        Refusal::SizesDiffer => write_refused(2, output),
+        Refusal::WrongLength => write_refused(3, output),
+        Refusal::BadCellSize => write_refused(4, output),
+        Refusal::BadLimit => write_refused(5, output),
+        Refusal::NegativeTime(index) => write_refused_at(6, index, output),
+        Refusal::OverBudget(index) => write_refused_at(7, index, output),
+    }
+}
+
+// Writes the answer of a search, with its answer grid where it was accepted.
+pub fn write_answer(answer: Answer, cells: &[f32], output: &mut [u8]) -> usize
+    requires { ⌜ length (now cells) ≤ 1024 ⌝ }
+    requires { ⌜ longest ≤ length (now output) ⌝ }
+    ensures { λ r. ⌜ Told (stated answer (now (cells .entry))) (now (output .entry)) (now (output .exit)) r ⌝ }
+{
+    match answer {
+        Answer::Accepted(counts) => write_accepted(counts.takes, cells, output),
+        Answer::Refused(refusal) => write_refusal(refusal, output),
+    }
+}

@@ -1,0 +1,145 @@
+-- A file that is not refused has at most 12,321 bytes: a program that has read more need not read on. Assumes nothing.
+use mathlib.Core.Path.{_≡_, refl, sym, ap, subst, _∙_}
+use mathlib.Core.Bool.{Bool, true, false, cond}
+use mathlib.Core.List.{List, [], _∷_}
+use Prim.Native.Nat.{ℕ, zero, suc, _+_, _*_, _%_, _≤_, _<_}
+use native.Mathlib.Omega.{arith}
+use borrow.Author.Tests.{leb-true, eq-eqb}
+use lib.Dec.{leb, eqb}
+use lib.ListN.{length, drop, length-drop}
+use Rattle.gridfile.specs.Fields.{Part, part, Field, field, Fields, cut, whole, and-then, fields-after, fields-from, content-of, tags}
+use Rattle.gridfile.specs.Request.{Grids, Request, Parsed, Good, Bad, grids-of, same, by-tag, small-bytes, small-floats, grids-fit, parsed}
+use Rattle.gridfile.specs.Lookups.{Exactly, Breach, grids-in}
+use Rattle.gridfile.proofs.Choices.{by-test, and-both, all-four, same-is, table}
+use Rattle.gridfile.proofs.Heads.{head-within}
+use Rattle.gridfile.proofs.Requests.{came}
+
+-- ---- bytes and fields
+
+-- The bytes of fields: three of the head and those of the content, each.
+abbrev bytes-of : List Field → ℕ
+bytes-of [] = 0
+bytes-of (f ∷ fields) = 3 + f .content .len + bytes-of fields
+
+-- So many bytes, of which the first belong to the field before.
+abbrev Spans : ℕ → ℕ → Fields → Type 0
+Spans left long cut = Unit {0}
+Spans left long (whole fields) = long ≡ left + bytes-of fields
+
+one-more : (left long : ℕ) (w : Fields) → Spans left long w → Spans (suc left) (suc long) w
+one-more left long cut spans = tt
+one-more left long (whole fields) spans = omega arith
+
+with-field : (tag at len long : ℕ) (w : Fields) → Spans len long w → Spans 0 (suc (suc (suc long))) (and-then (field tag (part at len)) w)
+with-field tag at len long cut spans = tt
+with-field tag at len long (whole fields) spans = omega arith
+
+-- Bytes are those of their fields. Proof: by the bytes.
+spanned : (left at : ℕ) (bytes : List ℕ) → Spans left (length bytes) (fields-after left at bytes)
+unfolding fields-after
+spanned zero at [] = omega arith
+spanned zero at (tag ∷ []) = tt
+spanned zero at (tag ∷ low ∷ []) = tt
+spanned zero at (tag ∷ low ∷ high ∷ bytes) =
+    let len = low + 256 * high in
+    with-field tag (at + 3) len (length bytes) (fields-after len (at + 3) bytes) (spanned len (at + 3) bytes)
+spanned (suc left) at [] = tt
+spanned (suc left) at (b ∷ bytes) = one-more left (length bytes) (fields-after left (suc at) bytes) (spanned left (suc at) bytes)
+
+-- ---- fields whose contents are small
+
+abbrev All-small : List Field → List ℕ → Type 0
+All-small fields [] = Unit {0}
+All-small fields (a ∷ more) = (content-of a fields .len ≤ 4096) × All-small fields more
+
+abbrev Apart : ℕ → List ℕ → Type 0
+Apart a [] = Unit {0}
+Apart a (b ∷ more) = (eqb a b ≡ false) × Apart a more
+
+abbrev Distinct : List ℕ → Type 0
+Distinct [] = Unit {0}
+Distinct (a ∷ more) = Apart a more × Distinct more
+
+module _ (f : Field) (fields : List Field) (a : ℕ) (is : f .tag ≡ a) where
+  first-content : content-of a (f ∷ fields) ≡ f .content
+  unfolding content-of
+  first-content = ap (λ (t : Bool). cond t (f .content) (content-of a fields)) (eq-eqb (f .tag) a is)
+
+  later-content : (b : ℕ) → eqb a b ≡ false → content-of b (f ∷ fields) ≡ content-of b fields
+  unfolding content-of
+  later-content b other = ap (λ (t : Bool). cond t (f .content) (content-of b fields)) (ap (λ (k : ℕ). eqb k b) is ∙ other)
+
+  rest-small : (more : List ℕ) → Apart a more → All-small (f ∷ fields) more → All-small fields more
+  rest-small [] apart small = tt
+  rest-small (b ∷ more) apart small = (subst (λ (p : Part). p .len ≤ 4096) (later-content b (apart .0)) (small .0), rest-small more (apart .1) (small .1))
+
+-- Fields with distinct tags have at most 3 + 4,096 bytes each. Proof: by the fields; what the tag of the first finds is the first's content,
+-- and what another tag finds is among the others.
+few-bytes : (fields : List Field) (ts : List ℕ) → tags fields ≡ ts → Distinct ts → All-small fields ts → bytes-of fields ≤ 4099 * length ts
+few-bytes [] [] e apart small = omega arith
+few-bytes [] (a ∷ more) e apart small = let never : _≡_ {A = ℕ} 0 1 = cc in absurd (omega arith)
+few-bytes (f ∷ fields) [] e apart small = let never : _≡_ {A = ℕ} 0 1 = cc in absurd (omega arith)
+few-bytes (f ∷ fields) (a ∷ more) e apart small =
+    let is : f .tag ≡ a = cc in
+    let are : tags fields ≡ more = cc in
+    let first = subst (λ (p : Part). p .len ≤ 4096) (first-content f fields a is) (small .0) in
+    let rest = few-bytes fields more are (apart .1) (rest-small f fields a is more (apart .0) (small .1)) in
+    omega arith
+
+-- The grids of a search are at most three.
+grids-short :
+    (fields : List Field) (search : ℕ) → tags fields ≡ grids-of search
+    → content-of 0x04 fields .len ≤ 4096 → content-of 0x05 fields .len ≤ 4096 → content-of 0x06 fields .len ≤ 4096 → content-of 0x07 fields .len ≤ 4096
+    → bytes-of fields ≤ 12297
+grids-short fields search are t o ti v =
+    table (λ ts. tags fields ≡ ts → bytes-of fields ≤ 12297)
+    (λ e. let few = few-bytes fields _ e (tt, tt) (t, tt) in omega arith)
+    (λ e. let few = few-bytes fields _ e ((refl, tt), (tt, tt)) (t, (o, tt)) in omega arith)
+    (λ e. let few = few-bytes fields _ e ((refl, tt), (tt, tt)) (t, (ti, tt)) in omega arith)
+    (λ e. let few = few-bytes fields _ e ((refl, tt), (tt, tt)) (t, (v, tt)) in omega arith)
+    (λ e. let few = few-bytes fields _ e ((refl, (refl, tt)), ((refl, tt), (tt, tt))) (t, (ti, (v, tt))) in omega arith)
+    (λ e. let few = few-bytes fields _ e ((refl, tt), (tt, tt)) (ti, (v, tt)) in omega arith)
+    (λ e. let few = few-bytes fields _ e tt tt in omega arith)
+    search are
+
+-- ---- files
+
+found-short : (search long : ℕ) (w : Fields) (g : Grids) → Spans 0 long w → grids-in search w ≡ Exactly g → grids-fit g ≡ true → long ≤ 12297
+unfolding grids-in grids-fit
+found-short search long cut g spans e fit = let never : _≡_ {A = ℕ} 0 1 = cc in absurd (omega arith)
+found-short search long (whole fields) g spans e fit =
+    by-test (long ≤ 12297) (same (tags fields) (grids-of search))
+    (λ exact.
+    let is : Exactly (by-tag fields) ≡ Exactly g = sym (ap (λ (t : Bool). cond t (Exactly (by-tag fields)) Breach) exact) ∙ e in
+    let is′ : by-tag fields ≡ g = cc in
+    let all : grids-fit (by-tag fields) ≡ true = ap grids-fit is′ ∙ fit in
+    let b = by-tag fields in
+    let small = all-four (small-bytes (b .targets)) (small-bytes (b .obstacles)) (small-floats (b .times)) (small-floats (b .values)) all in
+    let times = and-both (leb (b .times .len) 4096) (eqb (b .times .len % 4) 0) (small .2) in
+    let values = and-both (leb (b .values .len) 4096) (eqb (b .values .len % 4) 0) (small .3) in
+    let short = grids-short fields search (same-is (tags fields) (grids-of search) exact) (leb-true _ _ (small .0)) (leb-true _ _ (small .1)) (leb-true _ _ (times .0)) (leb-true _ _ (values .0)) in
+    omega arith)
+    (λ other.
+    let is : Breach ≡ Exactly g = sym (ap (λ (t : Bool). cond t (Exactly (by-tag fields)) Breach) other) ∙ e in
+    let never : _≡_ {A = ℕ} 0 1 = cc in
+    absurd (omega arith))
+
+-- The longest file that is not refused: 24 bytes, and three grid fields of 4,096.
+abbrev pub longest-file : ℕ
+longest-file = 12321
+
+pub good-short : (file : List ℕ) (r : Request) → parsed file ≡ Good r → length file ≤ longest-file
+good-short file r e =
+    let c = came file r e in
+    let head = head-within file (c .begins) in
+    let rest = found-short _ (length (drop 24 file)) (fields-from file 24) (r .grids) (spanned 0 24 (drop 24 file)) (c .exact) (c .small) in
+    let all = length-drop 24 file in
+    omega arith
+
+-- A longer one is refusal 8.
+pub too-long : (file : List ℕ) → longest-file < length file → parsed file ≡ Bad
+too-long file long = go (parsed file) refl
+  where
+    go : (p : Parsed) → parsed file ≡ p → p ≡ Bad
+    go (Good r) e = let short = good-short file r e in absurd (omega arith)
+    go Bad e = refl

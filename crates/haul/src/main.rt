@@ -1,0 +1,18 @@
+// Program `haul`: reads a grid file on standard input, and writes its answer on standard output.
+use answer::LONGEST;
+use answer::answer_file;
+use libc::STDIN_FILENO;
+use libc::STDOUT_FILENO;
+
+// One byte more than the longest file that is not refused, 24 + 3 * (3 + 4,096), has: what fills the
+// array is refusal 8, whatever comes after it (proofs/Reading.antt of `answer`).
+const INPUT: usize = 12_322;
+
+// Reads, answers and writes.
+fn main() {
+    let mut input = [0u8; INPUT];
+    let mut output = [0u8; LONGEST];
+    let read = io::read_full(STDIN_FILENO, &mut input);
+    let written = answer_file(&input[..read], &mut output);
+    io::write_all(STDOUT_FILENO, &output[..written]);
+}

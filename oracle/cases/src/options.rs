@@ -1,0 +1,73 @@
+//! The options of the commands that compare, and the comparison that they ask for.
+use case::Search;
+
+use crate::compare::{Seen, Side, compare};
+use crate::generate::Sizes;
+
+/// Which cases a command is about.
+pub struct Options {
+    pub search: Option<Search>,
+    pub cases: u64,
+    pub seed: u64,
+    pub sizes: Sizes,
+}
+
+impl Options {
+    pub fn read(mut words: &[&str]) -> Result<Options, String> {
+        let mut options = Options { search: None, cases: 1000, seed: 1, sizes: Sizes::File };
+        loop {
+            words = match words {
+                [] => return Ok(options),
+                ["--large", rest @ ..] => {
+                    options.sizes = Sizes::Large;
+                    rest
+                }
+                ["--search", word, rest @ ..] => {
+                    options.search = Some(read_search(word)?);
+                    rest
+                }
+                ["--cases", word, rest @ ..] => {
+                    options.cases = number(word)?;
+                    rest
+                }
+                ["--seed", word, rest @ ..] => {
+                    options.seed = number(word)?;
+                    rest
+                }
+                [word, ..] => return Err(format!("`{word}` is no option, or lacks its number; see `cases help`")),
+            };
+        }
+    }
+}
+
+pub fn number(word: &str) -> Result<u64, String> {
+    word.parse().map_err(|_| format!("`{word}` is no number"))
+}
+
+pub fn read_search(word: &str) -> Result<Search, String> {
+    word.parse().ok().and_then(Search::from_number).ok_or_else(|| format!("`{word}` is no search: they are 1 to 8"))
+}
+
+/// Compares the two sides that these names stand for, a line for each search.
+pub fn run_compare(names: [&str; 2], side: fn(&str) -> Side, options: &Options) -> Result<(), String> {
+    let sides = names.map(side);
+    for search in Search::ALL {
+        if options.search.is_none_or(|only| only == search) {
+            let seen = compare(&sides, search, options.sizes, options.seed, options.cases)?;
+            println!("search {}: {} and {} agree: {}", search.number(), names[0], names[1], summary(&seen));
+        }
+    }
+    Ok(())
+}
+
+fn summary(seen: &Seen) -> String {
+    let mut parts = vec![format!("{} files ({} damaged), {} calls", seen.files, seen.damaged, seen.calls)];
+    if seen.not_fed > 0 {
+        parts.push(format!("{} NOT FED, as no grid file holds them", seen.not_fed));
+    }
+    parts.extend(seen.statuses.iter().map(|(status, count)| match status {
+        0 => format!("{count} accepted with {} takes", seen.takes),
+        number => format!("{count} refused by {number}"),
+    }));
+    parts.join(", ")
+}
