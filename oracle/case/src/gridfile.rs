@@ -171,8 +171,7 @@ pub fn read_answer(bytes: &[u8]) -> Option<Answer> {
         let (words, []) = fields.next(GRID).ok()?.as_chunks() else { return None };
         Answer::Accepted { takes, grid: words.iter().map(|&word| u32::from_le_bytes(word)).collect() }
     } else {
-        let index =
-            if fields.rest.is_empty() { None } else { Some(u32::from_le_bytes(fields.exactly(INDEX).ok()?)) };
+        let index = if fields.rest.is_empty() { None } else { Some(u32::from_le_bytes(fields.exactly(INDEX).ok()?)) };
         Answer::Refused { number: status, index }
     };
     fields.rest.is_empty().then_some(answer)

@@ -2,9 +2,9 @@
 
 pub mod compare;
 pub mod generate;
+pub mod options;
 pub mod random;
 pub mod readings;
-pub mod options;
 pub mod stored;
 pub mod theorems;
 
