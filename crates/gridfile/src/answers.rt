@@ -1,7 +1,7 @@
 // The bytes of an answer.
-use crate::floats::bits_of;
 use crate::numbers::put_number;
 use crate::tags;
+use binary32::bits_of;
 ghost use Prim.Native.Nat.{_+_, _*_, _≤_, _<_};
 ghost use lib.ListN.{length};
 ghost use Rattle.rules.specs.Sizes.{number, number-at, refused, accepted};

@@ -1,7 +1,7 @@
 // Grids as the library takes them, out of the file.
 use crate::fields::Part;
-use crate::floats::of_bits;
 use crate::numbers::u32_at;
+use binary32::of_bits;
 ghost use mathlib.Core.Path.{_≡_};
 ghost use mathlib.Core.List.{_++_};
 ghost use Prim.Native.Nat.{_+_, _/_, _≤_};

@@ -9,7 +9,6 @@
 mod answers;
 mod contents;
 mod fields;
-mod floats;
 mod grids;
 mod head;
 mod numbers;

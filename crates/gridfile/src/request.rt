@@ -1,5 +1,4 @@
 // What a file asks for.
-use crate::floats::of_bits;
 use crate::grids::Found;
 use crate::grids::Grids;
 use crate::grids::find_grids;
@@ -9,6 +8,7 @@ use crate::head::Head;
 use crate::head::has_head;
 use crate::head::head_fits;
 use crate::head::read_head;
+use binary32::of_bits;
 use rules::BarrierDiagonals;
 use rules::Size;
 use rules::Spacing;

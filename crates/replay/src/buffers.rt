@@ -2,7 +2,6 @@
 ghost use mathlib.Core.Path.{_≡_};
 ghost use mathlib.Core.Bool.{true};
 ghost use Rattle.replay.specs.Buffers.{AllAre, AllHave, SameBits};
-use crate::floats;
 
 // What each byte of a lent buffer holds before the call.
 pub const DIRTY_BYTE: u8 = 0xA5;
@@ -31,7 +30,7 @@ pub fn same_bits(cells: &[f32], bits: &[u32]) -> bool
     }
     let mut i = 0;
     while i < cells.len() {
-        if floats::bits_of(cells[i]) != bits[i] {
+        if binary32::bits_of(cells[i]) != bits[i] {
             return false;
         }
         i += 1;
@@ -45,7 +44,7 @@ fn floats_are(cells: &[f32], bits: u32) -> bool
 {
     let mut i = 0;
     while i < cells.len() {
-        if floats::bits_of(cells[i]) != bits {
+        if binary32::bits_of(cells[i]) != bits {
             return false;
         }
         i += 1;
@@ -86,7 +85,7 @@ pub fn floats_left(cells: &[f32], cleared: bool) -> bool {
     if cleared {
         return floats_are(cells, 0);
     }
-    floats_are(cells, floats::bits_of(DIRTY_FLOAT))
+    floats_are(cells, binary32::bits_of(DIRTY_FLOAT))
 }
 
 // Whether a work buffer of bytes was cleared, or else was left as it was.

@@ -1,7 +1,6 @@
 // The grids of a case, read into lent buffers.
 ghost use Prim.Native.Nat.{_≤_};
 ghost use lib.ListN.{length};
-use crate::floats;
 use crate::words;
 use crate::words::At;
 use rules::Size;
@@ -91,7 +90,7 @@ fn float_cells(text: &[u8], from: At, cells: &mut [f32]) -> At {
     let mut i = 0;
     while i < cells.len() {
         let cell = words::hex(text, words::literal(text, at, b" "));
-        cells[i] = floats::of_bits(cell.value);
+        cells[i] = binary32::of_bits(cell.value);
         at = cell.at;
         i += 1;
     }

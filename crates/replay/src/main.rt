@@ -8,7 +8,6 @@ mod by_distance;
 mod by_sum;
 mod by_value;
 mod case;
-mod floats;
 mod grids;
 mod searches;
 mod settings;

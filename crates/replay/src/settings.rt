@@ -1,5 +1,4 @@
 // The two lines at a case's start.
-use crate::floats;
 use crate::words;
 use crate::words::At;
 use rules::BarrierDiagonals;
@@ -50,8 +49,8 @@ pub fn head(text: &[u8], at: At) -> Settings {
         diagonals: diagonals_of(diagonals.value),
         adjacent: adjacent.value == 1,
         spacing: Spacing {
-            cell_size: floats::of_bits(cell_size.value),
-            limit: floats::of_bits(limit.value),
+            cell_size: binary32::of_bits(cell_size.value),
+            limit: binary32::of_bits(limit.value),
         },
         at: words::literal(text, at, b"\n"),
     }

@@ -1,6 +1,5 @@
 // The stored answer of a case, and what every buffer must hold after the call.
 use crate::buffers;
-use crate::floats;
 use crate::grids;
 use crate::words;
 use crate::words::At;
@@ -22,9 +21,9 @@ pub struct Stored {
 // number what was there before the call.
 fn left_in_answer(number: u64) -> u32 {
     if number == 7 {
-        floats::NAN_BITS
+        binary32::NAN_BITS
     } else {
-        floats::bits_of(buffers::DIRTY_FLOAT)
+        binary32::bits_of(buffers::DIRTY_FLOAT)
     }
 }
 

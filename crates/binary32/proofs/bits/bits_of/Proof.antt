@@ -1,12 +1,12 @@
--- `floats::bits_of` meets its contract. Of the logic's one NaN, `toBits` gives the pattern of an answer's. Assumes nothing.
+-- `bits::bits_of` meets its contract. Of the logic's one NaN, `toBits` gives the pattern of an answer's. Assumes nothing.
 use mathlib.Core.Bool.{Bool, not}
 use mathlib.Core.Path.{sym, ap, subst, _∙_}
 use borrow.Author.Needs.{needs}
 use lib.Dec.{T}
 use lib.Ieee.{binary32, toBits}
 use Rattle.binary32.proofs.NotANumber.{isNan→nan}
-use Rattle.replay.proofs.floats.bits_of.Statement.{statement}
-use Rattle.replay.proofs.floats.bits_of.Tie as tie
+use Rattle.binary32.proofs.bits.bits_of.Statement.{statement}
+use Rattle.binary32.proofs.bits.bits_of.Tie as tie
 
 is-nodata-requires : tie.Need-is-nodata-requires
 is-nodata-requires c κs = search needs

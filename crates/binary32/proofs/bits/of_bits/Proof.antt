@@ -1,4 +1,4 @@
--- `floats::of_bits` meets its contract. A pattern is a NaN's exactly where it is above infinity's once the sign is off
+-- `bits::of_bits` meets its contract. A pattern is a NaN's exactly where it is above infinity's once the sign is off
 -- (`nanBits-above`): there the value is the one NaN. Assumes nothing.
 use mathlib.Core.Bool.{Bool, not}
 use mathlib.Core.Path.{sym, subst, _∙_}
@@ -7,9 +7,9 @@ use borrow.Author.Tests.{lt-ltb, le-ltb}
 use lib.Dec.{T}
 use lib.Ieee.Bits.{nanBits-is, nanBits-above}
 use lib.Ieee.{binary32, ofBits}
 use Rattle.binary32.proofs.NotANumber.{isNan→nan}
-use Rattle.replay.proofs.floats.of_bits.Statement.{statement}
-use Rattle.replay.proofs.floats.of_bits.Tie as tie
+use Rattle.binary32.proofs.bits.of_bits.Statement.{statement}
+use Rattle.binary32.proofs.bits.of_bits.Tie as tie
 
 nan-requires : tie.Need-nan-requires
 nan-requires c κs = search needs
