@@ -3,7 +3,7 @@
 // Each search is a call without conditions. It gives the first refusal of document 01 that applies,
 // before it writes anything, or leaves in the answer what the rules of the search give, counts the
 // takes, and leaves the work buffers all zero. From these promises alone proofs/ shows that a call is
-// decided, and that its takes are within the square.
+// decided, that each value is that of a closest target, and that the takes are within the square.
 mod closest;
 mod search;
 mod travel;
