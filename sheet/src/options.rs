@@ -1,0 +1,177 @@
+//! The words of the command line, and which search they ask for.
+use std::ffi::OsString;
+use std::path::PathBuf;
+
+use haul::BarrierDiagonals;
+use lexopt::Arg::{Long, Short, Value};
+
+use crate::numbers::read_float;
+use crate::roles::{Role, Search};
+
+/// A command that runs a search. Two of them, `distance` and `travel_distance`, stand for document 01's forms without a
+/// limit; given one, they are the search with it.
+pub struct Command {
+    pub name: &'static str,
+    pub search: Search,
+    pub limit_may_be_left_out: bool,
+}
+
+const fn command(name: &'static str, search: Search, limit_may_be_left_out: bool) -> Command {
+    Command { name, search, limit_may_be_left_out }
+}
+
+pub const COMMANDS: [Command; 10] = [
+    command("distance", Search::DistancesUpTo, true),
+    command("distances_up_to", Search::DistancesUpTo, false),
+    command("distance_with_obstacles", Search::DistanceWithObstacles, false),
+    command("travel_distance", Search::TravelDistancesUpTo, true),
+    command("travel_distances_up_to", Search::TravelDistancesUpTo, false),
+    command("value_at_closest_target", Search::ValueAtClosestTarget, false),
+    command("value_at_closest_travel_target", Search::ValueAtClosestTravelTarget, false),
+    command("value_at_closest_less_than_travel_target", Search::ValueAtClosestLessThanTravelTarget, false),
+    command("sum_within_travel_distance", Search::SumWithinTravelDistance, false),
+    command("sum_targets_within_travel_distance", Search::SumTargetsWithinTravelDistance, false),
+];
+
+/// The command of this name; hyphens count as underscores.
+pub fn find_command(word: &str) -> Result<&'static Command, String> {
+    let name = word.replace('-', "_");
+    COMMANDS
+        .iter()
+        .find(|command| command.name == name)
+        .ok_or_else(|| format!("`{word}` is no search; `sheet --help` lists them"))
+}
+
+/// The options as they were given.
+#[derive(Default)]
+struct Given {
+    grids: Vec<(Role, PathBuf)>,
+    limit: Option<f32>,
+    diagonals: Option<BarrierDiagonals>,
+    adjacent: bool,
+    nodata_starts: bool,
+    out: Option<PathBuf>,
+    picture: Option<PathBuf>,
+    help: bool,
+}
+
+/// What is asked of a search: exactly what it takes, and where the answer goes.
+#[derive(Debug)]
+pub struct Asked {
+    pub search: Search,
+    /// In the order of the search's roles.
+    pub grids: Vec<(Role, PathBuf)>,
+    /// 0 in a search that has none.
+    pub limit: f32,
+    /// `Include` in a search that has none.
+    pub diagonals: BarrierDiagonals,
+    pub adjacent: bool,
+    pub nodata_starts: bool,
+    pub out: Option<PathBuf>,
+    pub picture: Option<PathBuf>,
+}
+
+/// What the words after a command's name ask for, or none where they ask for help.
+pub fn read(command: &Command, words: impl Iterator<Item = OsString> + 'static) -> Result<Option<Asked>, String> {
+    let given = read_words(words).map_err(|error| error.to_string())?;
+    if given.help { Ok(None) } else { asked(command, given).map(Some) }
+}
+
+fn read_words(words: impl Iterator<Item = OsString> + 'static) -> Result<Given, lexopt::Error> {
+    let mut given = Given::default();
+    let mut parser = lexopt::Parser::from_args(words);
+    while let Some(word) = parser.next()? {
+        match word {
+            Short('h') | Long("help") => given.help = true,
+            Long("adjacent") => given.adjacent = true,
+            Long("nodata-starts") => given.nodata_starts = true,
+            Long("limit") => once(&mut given.limit, "limit", read_limit(parser.value()?)?)?,
+            Long("diagonals") => once(&mut given.diagonals, "diagonals", read_diagonals(parser.value()?)?)?,
+            Long("out") => once(&mut given.out, "out", parser.value()?.into())?,
+            Long("picture") => once(&mut given.picture, "picture", parser.value()?.into())?,
+            Long(name) => match Role::ALL.into_iter().find(|role| role.name() == name) {
+                Some(role) => given.grids.push((role, parser.value()?.into())),
+                None => return Err(word.unexpected()),
+            },
+            Short(_) | Value(_) => return Err(word.unexpected()),
+        }
+    }
+    Ok(given)
+}
+
+/// An option that is given twice is a slip, and which of the two was meant can't be known.
+fn once<T>(place: &mut Option<T>, name: &str, value: T) -> Result<(), String> {
+    match place.replace(value) {
+        None => Ok(()),
+        Some(_) => Err(format!("--{name} is given twice")),
+    }
+}
+
+fn read_limit(word: OsString) -> Result<f32, String> {
+    let word = word.to_string_lossy();
+    read_float(&word).ok_or_else(|| format!("--limit {word} is no number that a float holds; `inf` is for none"))
+}
+
+fn read_diagonals(word: OsString) -> Result<BarrierDiagonals, String> {
+    match word.to_str() {
+        Some("include") => Ok(BarrierDiagonals::Include),
+        Some("exclude") => Ok(BarrierDiagonals::Exclude),
+        _ => Err(format!("--diagonals is `include` or `exclude`, not {}", word.to_string_lossy())),
+    }
+}
+
+/// Holds what was given to what the search takes.
+fn asked(command: &Command, given: Given) -> Result<Asked, String> {
+    let has_obstacles = given.grids.iter().any(|(role, _)| *role == Role::Obstacles);
+    let search = if command.name == "distance" && has_obstacles { Search::DistanceWithObstacles } else { command.search };
+    let name = search.name();
+    let not_taken = [
+        ("limit", given.limit.is_some(), search.has_limit()),
+        ("diagonals", given.diagonals.is_some(), search.has_diagonals()),
+        ("adjacent", given.adjacent, search.has_adjacent()),
+        ("nodata-starts", given.nodata_starts, search.starts_at_nodata()),
+    ];
+    if let Some((option, ..)) = not_taken.into_iter().find(|(_, given, taken)| *given && !taken) {
+        return Err(format!("{name} takes no --{option}"));
+    }
+    let limit = match given.limit {
+        Some(limit) => limit,
+        None if !search.has_limit() => 0.0,
+        None if command.limit_may_be_left_out => f32::INFINITY,
+        None => return Err(format!("{name} wants --limit")),
+    };
+    let diagonals = match given.diagonals {
+        Some(diagonals) => diagonals,
+        None if !search.has_diagonals() => BarrierDiagonals::Include,
+        None => {
+            return Err(format!(
+                "{name} wants --diagonals: `exclude` if a machine can't go between two obstacles that meet at a corner, \
+                 `include` if it can"
+            ));
+        }
+    };
+    Ok(Asked {
+        search,
+        grids: grids_of(search, given.grids)?,
+        limit,
+        diagonals,
+        adjacent: given.adjacent,
+        nodata_starts: given.nodata_starts,
+        out: given.out,
+        picture: given.picture,
+    })
+}
+
+/// The search's grids in its order, none lacking and none left over.
+fn grids_of(search: Search, mut given: Vec<(Role, PathBuf)>) -> Result<Vec<(Role, PathBuf)>, String> {
+    let mut grids = Vec::new();
+    for role in search.roles() {
+        let at = given.iter().position(|(other, _)| other == role);
+        grids.push(given.remove(at.ok_or_else(|| format!("{} wants --{}", search.name(), role.name()))?));
+    }
+    match given.first() {
+        None => Ok(grids),
+        Some((role, _)) if search.roles().contains(role) => Err(format!("--{} is given twice", role.name())),
+        Some((role, _)) => Err(format!("{} takes no --{}", search.name(), role.name())),
+    }
+}
