@@ -35,7 +35,11 @@ impl Random {
 
 fn main() {
     let folder = std::env::args_os().nth(1).expect("a folder is wanted: stand FOLDER");
-    let folder = Path::new(&folder);
+    write_stand(Path::new(&folder));
+}
+
+/// Writes the stand's four grids into a folder.
+pub fn write_stand(folder: &Path) {
     let mut random = Random(SEED);
     let rough = rough_ground(&mut random);
     write(folder, "landings.asc", landing);

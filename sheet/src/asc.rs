@@ -12,9 +12,8 @@ use haul::{Grid, Refusal};
 
 use crate::numbers::nine_digits;
 
-const KEYWORDS: [&str; 10] = [
-    "ncols", "nrows", "xllcorner", "xllcenter", "yllcorner", "yllcenter", "cellsize", "dx", "dy", "nodata_value",
-];
+const KEYWORDS: [&str; 10] =
+    ["ncols", "nrows", "xllcorner", "xllcenter", "yllcorner", "yllcenter", "cellsize", "dx", "dy", "nodata_value"];
 /// The header lines that a sheet keeps from its first grid as they are, in this order.
 const KEPT: [&str; 7] = ["xllcorner", "xllcenter", "yllcorner", "yllcenter", "cellsize", "dx", "dy"];
 const NODATA: &str = "-9999";

@@ -27,7 +27,9 @@ pub fn print(bytes: &[u8], size: Option<Size>) -> Result<String, String> {
     let mut text = match fields.first().map(|field| field.tag) {
         Some(FLAGS) => print_grid_file(&fields),
         Some(STATUS) => print_answer(&fields, size),
-        Some(tag) => return Err(format!("begins with tag {tag:02x}: a grid file does with 01, an answer file with 10")),
+        Some(tag) => {
+            return Err(format!("begins with tag {tag:02x}: a grid file does with 01, an answer file with 10"));
+        }
         None => return Err("has no field, so it is neither a grid file nor an answer file".to_owned()),
     };
     if let Some(cut) = cut {
@@ -55,9 +57,8 @@ fn status(answer_file: &[u8]) -> Option<u8> {
 }
 
 fn print_grid_file(fields: &[Field]) -> String {
-    let search = fields[0].content.first().and_then(|number| {
-        Search::ALL.into_iter().find(|search| search.number() == *number)
-    });
+    let search =
+        fields[0].content.first().and_then(|number| Search::ALL.into_iter().find(|search| search.number() == *number));
     let columns = fields.iter().find(|field| field.tag == SIZE).and_then(Field::exactly).map(columns_of);
     fields.iter().map(|field| print_input(field, search, columns)).collect()
 }
@@ -110,7 +111,11 @@ fn print_numbers([c0, c1, c2, c3, l0, l1, l2, l3]: [u8; 8], search: Option<Searc
 
 fn cells_in_words(field: &Field, role: Role) -> Vec<String> {
     if role.is_bytes() {
-        field.content.iter().map(|byte| if *byte == BYTE_NODATA { "nodata".to_owned() } else { byte.to_string() }).collect()
+        field
+            .content
+            .iter()
+            .map(|byte| if *byte == BYTE_NODATA { "nodata".to_owned() } else { byte.to_string() })
+            .collect()
     } else {
         floats_in_words(field)
     }

@@ -40,11 +40,7 @@ pub fn pack(case: &Case) -> Result<Vec<u8>, String> {
     }
     let side = |cells: i32| u16::try_from(cells).map_err(|_| too_large());
     let (rows, columns) = (side(header.rows)?, side(header.columns)?);
-    let flags = [
-        case.search.number(),
-        u8::from(case.diagonals == BarrierDiagonals::Exclude),
-        u8::from(case.adjacent),
-    ];
+    let flags = [case.search.number(), u8::from(case.diagonals == BarrierDiagonals::Exclude), u8::from(case.adjacent)];
     let cell_size = if case.search.has_cell_size() { case.cell_size() } else { 0.0 };
 
     let mut file = Vec::new();

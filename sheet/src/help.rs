@@ -32,8 +32,12 @@ fn sentence(command: &Command) -> &'static str {
         "distance_with_obstacles" => "How far is each cell from the nearest landing, if a machine can't cross a ditch?",
         "travel_distance" => "How long does a machine take from each cell to the landing that is quickest to reach?",
         "travel_distances_up_to" => "The same up to a limit of time.",
-        "value_at_closest_target" => "What is the value, such as a price or a number, at the landing nearest to each cell?",
-        "value_at_closest_travel_target" => "What is the value at the landing that is quickest to reach from each cell?",
+        "value_at_closest_target" => {
+            "What is the value, such as a price or a number, at the landing nearest to each cell?"
+        }
+        "value_at_closest_travel_target" => {
+            "What is the value at the landing that is quickest to reach from each cell?"
+        }
         "value_at_closest_less_than_travel_target" => "The same for cells that are nearer in time than a limit.",
         "sum_within_travel_distance" => "How much timber can be reached from each of the chosen cells?",
         "sum_targets_within_travel_distance" => "How much timber is within a budget of time of each cell?",
@@ -82,10 +86,14 @@ pub fn of_search(command: &Command) -> String {
         option(&mut text, &format!("--{} FILE.asc", role.name()), role_help(search, *role));
     }
     if command.name == "distance" {
-        option(&mut text, "--obstacles FILE.asc", grid_help(Role::Obstacles));
+        option(&mut text, "[--obstacles FILE.asc]", grid_help(Role::Obstacles));
     }
     if search.has_diagonals() || command.name == "distance" {
-        option(&mut text, "--diagonals include|exclude", "with obstacles: can a machine go between two that meet at a corner?");
+        option(
+            &mut text,
+            "--diagonals include|exclude",
+            "with obstacles: can a machine go between two that meet at a corner?",
+        );
         option(&mut text, "", "`include`: it can. `exclude`: it can't. It must be said, as a route depends on it");
     }
     if search.has_limit() {
@@ -95,7 +103,11 @@ pub fn of_search(command: &Command) -> String {
         option(&mut text, "[--adjacent]", "adds the cells above, below, left and right of the reached ones too");
     }
     if search.starts_at_nodata() {
-        option(&mut text, "[--nodata-starts]", "nodata among the landings counts as a landing. In this search the library");
+        option(
+            &mut text,
+            "[--nodata-starts]",
+            "nodata among the landings counts as a landing. In this search the library",
+        );
         option(&mut text, "", "starts there, as the Rust that it is ported from does; without this option");
         option(&mut text, "", "nodata is passed as 0, since a planner's nodata is no landing");
     }

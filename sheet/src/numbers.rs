@@ -8,7 +8,7 @@ pub fn read_float(text: &str) -> Option<f32> {
     if number.is_infinite() && !says_infinity { None } else { Some(number) }
 }
 
-/// The float with nine significant digits, zeros at their end left out: `14.1421356`, `10`, `1.5e-07`, `inf`.
+/// The float with nine significant digits, zeros at their end left out: `14.1421356`, `10`, `9.31322575e-10`, `inf`.
 pub fn nine_digits(number: f32) -> String {
     if !number.is_finite() {
         return number.to_string();
@@ -31,6 +31,7 @@ fn without_end_zeros(decimal: &str) -> &str {
 /// A count with its thousands parted: 1,048,576.
 pub fn thousands(count: u64) -> String {
     let digits = count.to_string();
-    let parts: Vec<&str> = digits.as_bytes().rchunks(3).rev().map(|part| str::from_utf8(part).expect("digits")).collect();
+    let parts: Vec<&str> =
+        digits.as_bytes().rchunks(3).rev().map(|part| str::from_utf8(part).expect("digits")).collect();
     parts.join(",")
 }

@@ -123,7 +123,8 @@ fn read_diagonals(word: OsString) -> Result<BarrierDiagonals, String> {
 /// Holds what was given to what the search takes.
 fn asked(command: &Command, given: Given) -> Result<Asked, String> {
     let has_obstacles = given.grids.iter().any(|(role, _)| *role == Role::Obstacles);
-    let search = if command.name == "distance" && has_obstacles { Search::DistanceWithObstacles } else { command.search };
+    let search =
+        if command.name == "distance" && has_obstacles { Search::DistanceWithObstacles } else { command.search };
     let name = search.name();
     let not_taken = [
         ("limit", given.limit.is_some(), search.has_limit()),

@@ -18,8 +18,10 @@ const TICKS: usize = 5;
 const LEGEND_WIDTH: usize = 150;
 const SAMPLE: usize = 12;
 const SAMPLE_LINE: usize = 18;
-/// A mark is never smaller than this, so that a landing is seen on a large map.
-const MARK_LEAST: usize = 5;
+/// The least width of a mark: a few landings must be seen on a large map, many must not cover it.
+const MARK_OF_FEW: usize = 11;
+const MARK_OF_MANY: usize = 3;
+const FEW: usize = 200;
 const GREY: Colour = [150, 150, 150];
 
 /// How a cell is drawn.
@@ -100,10 +102,11 @@ fn draw_map(canvas: &mut Canvas, map: Area, edge: usize, case: &Case, run: &Run,
         let (x, y) = place(index);
         draw_cell(canvas, Area { x, y, width: edge, height: edge }, look(case, run, range, index));
     }
-    let targets = starts(case);
-    for index in (0..targets.len()).filter(|index| targets[*index]) {
+    let marked = marked(case);
+    let across = edge.max(if marked.len() <= FEW { MARK_OF_FEW } else { MARK_OF_MANY });
+    for index in marked {
         let (x, y) = place(index);
-        draw_mark(canvas, x + edge / 2, y + edge / 2, edge.max(MARK_LEAST));
+        draw_mark(canvas, x + edge / 2, y + edge / 2, across);
     }
     frame(canvas, map);
 }
@@ -130,10 +133,9 @@ fn is_obstacle(case: &Case, index: usize) -> bool {
 
 /// The cells that are marked: targets as the search was given them, or mask cells. In search 8 none are, as amounts may
 /// be everywhere.
-fn starts(case: &Case) -> Vec<bool> {
-    let first = case.first();
-    match &first.cells {
-        Cells::Bytes(cells) => cells.iter().map(|byte| case.search.starts_at(*byte)).collect(),
+fn marked(case: &Case) -> Vec<usize> {
+    match &case.first().cells {
+        Cells::Bytes(cells) => (0..cells.len()).filter(|index| case.search.starts_at(cells[*index])).collect(),
         Cells::Floats(_) => Vec::new(),
     }
 }
@@ -154,7 +156,7 @@ fn draw_mark(canvas: &mut Canvas, middle_x: usize, middle_y: usize, across: usiz
         for right in 0..=2 * reach {
             let from_middle = down.abs_diff(reach) + right.abs_diff(reach);
             if from_middle <= reach {
-                let colour = if from_middle + 1 >= reach { BLACK } else { WHITE };
+                let colour = if from_middle == 0 || from_middle + 1 < reach { WHITE } else { BLACK };
                 canvas.set((middle_x + right).wrapping_sub(reach), (middle_y + down).wrapping_sub(reach), colour);
             }
         }
@@ -186,7 +188,7 @@ fn draw_legend(canvas: &mut Canvas, x: usize, y: usize, case: &Case, run: &Run, 
         canvas.text(x + SAMPLE + GAP, line + (SAMPLE - LINE) / 2, name);
         line += SAMPLE_LINE;
     }
-    if starts(case).contains(&true) {
+    if !marked(case).is_empty() {
         draw_mark(canvas, x + SAMPLE / 2, line + SAMPLE / 2, SAMPLE);
         let name = if case.first().role == Role::Mask { "mask cell" } else { "target" };
         canvas.text(x + SAMPLE + GAP, line + (SAMPLE - LINE) / 2, name);

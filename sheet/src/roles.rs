@@ -15,8 +15,7 @@ pub enum Role {
 }
 
 impl Role {
-    pub const ALL: [Role; 6] =
-        [Role::Targets, Role::Mask, Role::Obstacles, Role::Times, Role::Values, Role::Amounts];
+    pub const ALL: [Role; 6] = [Role::Targets, Role::Mask, Role::Obstacles, Role::Times, Role::Values, Role::Amounts];
 
     /// The option that names the grid's file, and the grid's name in sentences.
     pub fn name(self) -> &'static str {

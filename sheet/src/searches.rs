@@ -37,14 +37,12 @@ fn search(case: &Case) -> Result<Sheet, Refusal> {
     let values = || case.floats(Role::Values);
     match case.search {
         Search::DistancesUpTo => haul::distances_up_to(targets(), case.cell_size(), case.limit),
-        Search::DistanceWithObstacles => haul::distance_with_obstacles(
-            targets(),
-            case.bytes(Role::Obstacles),
-            case.cell_size(),
-            case.diagonals,
-        ),
+        Search::DistanceWithObstacles => {
+            haul::distance_with_obstacles(targets(), case.bytes(Role::Obstacles), case.cell_size(), case.diagonals)
+        }
         Search::TravelDistancesUpTo => haul::travel_distances_up_to(targets(), times(), case.limit),
-        Search::ValueAtClosestTarget | Search::ValueAtClosestTravelTarget
+        Search::ValueAtClosestTarget
+        | Search::ValueAtClosestTravelTarget
         | Search::ValueAtClosestLessThanTravelTarget => value_at_closest(case, values()),
         Search::SumWithinTravelDistance => {
             haul::sum_within_travel_distance(case.bytes(Role::Mask), times(), values(), case.limit, case.adjacent)
@@ -74,9 +72,12 @@ fn told(case: &Case, sheet: &Sheet) -> Result<Vec<bool>, Refusal> {
         Search::DistancesUpTo => with_targets(case, sheet, below(case.limit * case.cell_size())),
         Search::DistanceWithObstacles => below(f32::INFINITY),
         Search::TravelDistancesUpTo => with_targets(case, sheet, below(case.limit)),
-        Search::ValueAtClosestTarget | Search::ValueAtClosestTravelTarget
+        Search::ValueAtClosestTarget
+        | Search::ValueAtClosestTravelTarget
         | Search::ValueAtClosestLessThanTravelTarget => value_came(case)?,
-        Search::SumWithinTravelDistance => case.bytes(Role::Mask).cells.iter().map(|byte| case.search.starts_at(*byte)).collect(),
+        Search::SumWithinTravelDistance => {
+            case.bytes(Role::Mask).cells.iter().map(|byte| case.search.starts_at(*byte)).collect()
+        }
         Search::SumTargetsWithinTravelDistance => sheet.cells.iter().map(|sum| *sum != 0.0).collect(),
     })
 }
@@ -94,8 +95,7 @@ fn with_targets(case: &Case, sheet: &Sheet, mut told: Vec<bool>) -> Vec<bool> {
 fn value_came(case: &Case) -> Result<Vec<bool>, Refusal> {
     let values = case.floats(Role::Values);
     let bars = case.search.starts_at_nodata();
-    let ones: Vec<f32> =
-        values.cells.iter().map(|value| if bars && value.is_nan() { f32::NAN } else { 1.0 }).collect();
+    let ones: Vec<f32> = values.cells.iter().map(|value| if bars && value.is_nan() { f32::NAN } else { 1.0 }).collect();
     let sheet = value_at_closest(case, Grid::new(values.rows, values.columns, &ones))?;
     Ok(sheet.cells.iter().map(|cell| *cell == 1.0).collect())
 }

@@ -63,7 +63,10 @@ fn headers() {
     assert_eq!(landings("ncols", without("ncols 3\n")), "the header of landings.asc lacks ncols");
     assert_eq!(landings("cellsize", without("cellsize 10\n")), "the header of landings.asc lacks cellsize");
     let with = |line: &str, other: &str| HEADER.replace(line, other) + "1 0 0\n0 0 0\n";
-    assert_eq!(landings("twice", with("nrows 2\n", "nrows 2\nNROWS 2\n")), "the header of landings.asc has nrows twice");
+    assert_eq!(
+        landings("twice", with("nrows 2\n", "nrows 2\nNROWS 2\n")),
+        "the header of landings.asc has nrows twice"
+    );
     assert_eq!(
         landings("two", with("nrows 2\n", "nrows 2 2\n")),
         "the header of landings.asc has nrows with 2 values, not one"
@@ -95,7 +98,8 @@ fn headers() {
 #[test]
 fn too_large() {
     let bounds = "a grid's size is out of bounds: 0 to 32,767 rows, 0 to 32,767 columns, at most 1,048,576 cells";
-    for (rows, columns) in [("1025", "1024"), ("32768", "1"), ("1", "32768"), ("-1", "1"), ("2147483647", "2147483647")] {
+    for (rows, columns) in [("1025", "1024"), ("32768", "1"), ("1", "32768"), ("-1", "1"), ("2147483647", "2147483647")]
+    {
         let sentence = landings("large", format!("ncols {columns}\nnrows {rows}\ncellsize 10\n"));
         assert_eq!(sentence, format!("the header of landings.asc says {rows} rows and {columns} columns: {bounds}"));
     }
@@ -205,9 +209,12 @@ fn headers_that_agree() {
 #[test]
 fn nodata_values() {
     let folder = folder("nodata-values");
-    for (header, nodata) in
-        [("", "-9999"), ("NODATA_value -9999\n", "-9999.0"), ("NODATA_value 255\n", "255"), ("NODATA_value nan\n", "nan")]
-    {
+    for (header, nodata) in [
+        ("", "-9999"),
+        ("NODATA_value -9999\n", "-9999.0"),
+        ("NODATA_value 255\n", "255"),
+        ("NODATA_value nan\n", "nan"),
+    ] {
         let text = format!("ncols 3\nnrows 1\ncellsize 10\n{header}1 {nodata} 0\n");
         fs::write(folder.join("landings.asc"), text).unwrap();
         said(&folder, DISTANCE);

@@ -2,8 +2,11 @@
 mod common;
 use common::{cells, failure, folder, grid, said};
 
+/// Grids by the options that name their files.
+type Grids<'a> = &'a [(&'a str, &'a str)];
+
 /// Writes the grids, each named by its option, runs the search and compares the sheet and the takes, where they are told.
-fn check(name: &str, search: &str, grids: &[(&str, &str)], expected: &str, takes: Option<u64>) {
+fn check(name: &str, search: &str, grids: Grids, expected: &str, takes: Option<u64>) {
     let folder = folder(&format!("small-{name}"));
     let words = words(&folder, search, grids);
     let said = said(&folder, &words);
@@ -13,7 +16,7 @@ fn check(name: &str, search: &str, grids: &[(&str, &str)], expected: &str, takes
     }
 }
 
-fn words(folder: &std::path::Path, search: &str, grids: &[(&str, &str)]) -> String {
+fn words(folder: &std::path::Path, search: &str, grids: Grids) -> String {
     let mut words = search.to_owned();
     for (option, cells) in grids {
         grid(folder, &format!("{option}.asc"), cells);
@@ -100,7 +103,7 @@ fn over_budget() {
 /// How many cells are reached, where the sheet alone does not show it.
 #[test]
 fn reached() {
-    let cases: [(&str, &[(&str, &str)], &str); 9] = [
+    let cases: [(&str, Grids, &str); 9] = [
         ("distance --limit 2", &[("targets", "1 0 0")], "2 of 3"),
         ("distance --limit 0", &[("targets", "1 0 0")], "1 of 3"),
         ("distance --diagonals exclude", &[("targets", "1 0 | 0 0"), ("obstacles", "0 1 | 1 0")], "1 of 4"),

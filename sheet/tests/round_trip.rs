@@ -1,0 +1,124 @@
+//! What is written comes back bit for bit.
+mod common;
+use std::fs;
+
+use common::{cells, folder, grid, said};
+use sheet::numbers::{nine_digits, read_float};
+use sheet::{asc, grids};
+
+/// SplitMix64: the same bits on every machine.
+struct Random(u64);
+
+impl Random {
+    fn bits(&mut self) -> u64 {
+        self.0 = self.0.wrapping_add(0x9E37_79B9_7F4A_7C15);
+        let z = (self.0 ^ (self.0 >> 30)).wrapping_mul(0xBF58_476D_1CE4_E5B9);
+        let z = (z ^ (z >> 27)).wrapping_mul(0x94D0_49BB_1331_11EB);
+        z ^ (z >> 31)
+    }
+}
+
+/// Floats of all kinds: the special ones, then random bits.
+fn floats(count: usize) -> Vec<f32> {
+    let special = [0, 0x8000_0000, 1, 0x8000_0001, 0x007F_FFFF, 0x0080_0000, 0x3FB5_04F3, 0x7F7F_FFFF, 0x7F80_0000]
+        .into_iter()
+        .chain([0xFF80_0000, 0x7FC0_0000, 0x4B80_0000, 0x3DCC_CCCD, 0x4E6E_6B28]);
+    let mut random = Random(7);
+    special.chain(std::iter::repeat_with(|| random.bits() as u32)).map(f32::from_bits).take(count).collect()
+}
+
+#[test]
+fn nine_digits_bring_a_float_back() {
+    for float in floats(1_000_000).into_iter().filter(|float| !float.is_nan()) {
+        let text = nine_digits(float);
+        let digits = text.split(['e', 'E']).next().unwrap().trim_start_matches(['-', '0', '.']);
+        assert!(digits.chars().filter(char::is_ascii_digit).count() <= 9, "{text} has more than nine digits");
+        assert_eq!(read_float(&text).map(f32::to_bits), Some(float.to_bits()), "{text}");
+        // Other programs read a double and round it then.
+        assert_eq!((text.parse::<f64>().unwrap() as f32).to_bits(), float.to_bits(), "{text} as a double");
+    }
+}
+
+#[test]
+fn a_number_is_written_as_people_write_it() {
+    let written = [
+        (10.0, "10"),
+        (14.142136, "14.1421356"),
+        (0.5, "0.5"),
+        (-0.0, "-0"),
+        (1e9, "1e+09"),
+        (9.313226e-10, "9.31322575e-10"),
+    ];
+    for (float, text) in written {
+        assert_eq!(nine_digits(float), text);
+    }
+    assert_eq!(nine_digits(f32::INFINITY), "inf");
+    assert_eq!(nine_digits(f32::NEG_INFINITY), "-inf");
+    assert_eq!(nine_digits(123_456_790.0), "123456792");
+}
+
+/// A sheet of all kinds of floats, written and read as a grid.
+#[test]
+fn a_sheet_comes_back() {
+    let folder = folder("round-trip");
+    let header = "ncols 100\nnrows 50\nxllcorner 3550000.125\nyllcenter -12.5\ncellsize 2.5\nNODATA_value 0\n";
+    let row = vec!["1"; 100].join(" ") + "\n";
+    let path = folder.join("grid.asc");
+    fs::write(&path, header.to_owned() + &row.repeat(50)).unwrap();
+    let place = asc::read(&path, grids::float).unwrap().header;
+
+    let cells = floats(5000);
+    fs::write(&path, asc::write(&place, &cells)).unwrap();
+    let back = asc::read(&path, grids::float).unwrap();
+    let bits = |cells: &[f32]| -> Vec<Option<u32>> {
+        cells.iter().map(|cell| if cell.is_nan() { None } else { Some(cell.to_bits()) }).collect()
+    };
+    assert_eq!(bits(&back.cells), bits(&cells));
+    assert_eq!((back.header.rows, back.header.columns, back.header.cell_size), (50, 100, 2.5));
+    assert_eq!(back.header.corner(), place.corner());
+    assert_eq!(place.corner(), Some((3550000.125, -13.75)));
+}
+
+/// A number that is -9999 stays a number: nodata is then written otherwise, and that is said.
+#[test]
+fn a_cell_that_holds_minus_9999() {
+    let folder = folder("minus-9999");
+    grid(&folder, "landings.asc", "1 0 0");
+    fs::write(folder.join("values.asc"), "ncols 3\nnrows 1\ncellsize 1\nNODATA_value -1\n-9999 0 -1\n").unwrap();
+    fs::write(folder.join("times.asc"), "ncols 3\nnrows 1\ncellsize 1\nNODATA_value -1\n1 1 1\n").unwrap();
+    let search = "value_at_closest_travel_target --targets landings.asc --times times.asc --values values.asc";
+    let said = said(&folder, &format!("{search} --out out.asc"));
+    assert!(said.ends_with("a cell holds the number -9999, so the NODATA_value of the sheet is nan\n"), "{said}");
+    assert!(fs::read_to_string(folder.join("out.asc")).unwrap().contains("NODATA_value nan\n"));
+    let back = asc::read(&folder.join("out.asc"), grids::float).unwrap().cells;
+    assert_eq!(back[..2], [-9999.0, -9999.0]);
+    assert!(back[2].is_nan());
+}
+
+/// Infinite distances go in as times again.
+#[test]
+fn infinity_is_read_back() {
+    let folder = folder("infinity");
+    grid(&folder, "landings.asc", "1 0 0");
+    grid(&folder, "ditches.asc", "0 1 0");
+    said(&folder, "distance --targets landings.asc --obstacles ditches.asc --diagonals exclude --out times.asc");
+    assert_eq!(cells(&folder, "times.asc"), "0 inf inf");
+    said(&folder, "travel_distance --targets landings.asc --times times.asc --out out.asc");
+    assert_eq!(cells(&folder, "out.asc"), "0 inf inf");
+}
+
+/// The largest grids that the library takes, and those of no cells.
+#[test]
+fn sizes_to_the_bounds() {
+    for (rows, columns) in [(1024, 1024), (32_767, 32), (32, 32_767), (0, 5), (5, 0)] {
+        let folder = folder(&format!("bounds-{rows}-{columns}"));
+        let row = vec!["1"; columns].join(" ") + "\n";
+        let text = format!("ncols {columns}\nnrows {rows}\ncellsize 10\n{}", row.repeat(rows));
+        fs::write(folder.join("landings.asc"), text).unwrap();
+        let said = said(&folder, "distance --targets landings.asc --out out.asc");
+        let zeros = vec!["0"; columns].join(" ") + "\n";
+        let expected = format!("ncols {columns}\nnrows {rows}\ncellsize 10\nNODATA_value -9999\n");
+        let expected = if columns == 0 { expected } else { expected + &zeros.repeat(rows) };
+        assert!(fs::read_to_string(folder.join("out.asc")).unwrap() == expected, "{rows} by {columns}: {said}");
+    }
+}
