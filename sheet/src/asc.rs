@@ -16,7 +16,8 @@ const KEYWORDS: [&str; 10] =
     ["ncols", "nrows", "xllcorner", "xllcenter", "yllcorner", "yllcenter", "cellsize", "dx", "dy", "nodata_value"];
 /// The header lines that a sheet keeps from its first grid as they are, in this order.
 const KEPT: [&str; 7] = ["xllcorner", "xllcenter", "yllcorner", "yllcenter", "cellsize", "dx", "dy"];
-const NODATA: &str = "-9999";
+/// Nodata where a header does not say it, and in a sheet.
+const NODATA: f64 = -9999.0;
 
 /// A grid that was read: where from, its header, and its cells in row-major order.
 #[derive(Clone, Debug)]
@@ -32,13 +33,16 @@ pub struct Header {
     pub rows: i32,
     pub columns: i32,
     pub cell_size: f64,
+    nodata: f64,
     lines: BTreeMap<String, String>,
 }
 
 impl Header {
-    /// The text of the value that stands for nodata.
-    pub fn nodata(&self) -> &str {
-        self.lines.get("nodata_value").map_or(NODATA, String::as_str)
+    /// Whether a number stands for nodata. It need only be the same as a float, since programs write nodata with more
+    /// or fewer digits; some write one that no float holds.
+    pub fn is_nodata(&self, number: f64) -> bool {
+        let [float, nodata] = [number, self.nodata].map(|number| number as f32);
+        number == self.nodata || (float == nodata && float.is_finite()) || (number.is_nan() && self.nodata.is_nan())
     }
 
     /// The west edge and the south edge, where the header has them.
@@ -107,10 +111,11 @@ fn read_header<'a>(lines: &mut std::iter::Peekable<impl Iterator<Item = &'a str>
         return Err(format!("says {rows} rows and {columns} columns: {refusal}"));
     }
     let cell_size = cell_size(&found)?;
-    for keyword in ["xllcorner", "xllcenter", "yllcorner", "yllcenter", "nodata_value"] {
+    let nodata = number(&found, "nodata_value")?.unwrap_or(NODATA);
+    for keyword in ["xllcorner", "xllcenter", "yllcorner", "yllcenter"] {
         number(&found, keyword)?;
     }
-    Ok(Header { rows, columns, cell_size, lines: found })
+    Ok(Header { rows, columns, cell_size, nodata, lines: found })
 }
 
 /// A line's keyword in small letters, and its value; none for a line of cells.
@@ -167,7 +172,7 @@ pub fn write(place: &Header, cells: &[f32]) -> String {
     text += &format!("NODATA_value {nodata}\n");
     for row in rows(cells, place.columns) {
         let words: Vec<String> =
-            row.iter().map(|cell| if cell.is_nan() { nodata.to_owned() } else { nine_digits(*cell) }).collect();
+            row.iter().map(|cell| if cell.is_nan() { nodata.clone() } else { nine_digits(*cell) }).collect();
         text += &words.join(" ");
         text += "\n";
     }
@@ -175,9 +180,8 @@ pub fn write(place: &Header, cells: &[f32]) -> String {
 }
 
 /// The text that stands for nodata in a sheet of these cells.
-pub fn nodata_for(cells: &[f32]) -> &'static str {
-    let taken: f32 = NODATA.parse().expect("it is a number");
-    if cells.contains(&taken) { "nan" } else { NODATA }
+pub fn nodata_for(cells: &[f32]) -> String {
+    if cells.contains(&(NODATA as f32)) { "nan".to_owned() } else { NODATA.to_string() }
 }
 
 /// The cells row by row; none where rows have no cells.

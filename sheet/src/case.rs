@@ -1,6 +1,8 @@
 //! Grid files and answer files in words, so that neither is a black box.
 use std::fmt::Write;
 
+use haul::Refusal;
+
 use crate::asc::rows;
 use crate::fields::{self, FLAGS, Field, GRID, INDEX, NUMBERS, SIZE, STATUS, TAKES};
 use crate::numbers::{nine_digits, thousands};
@@ -8,18 +10,6 @@ use crate::roles::{BYTE_NODATA, Role, Search};
 
 /// The rows and columns of a grid file, which an answer file does not repeat.
 pub type Size = (u16, u16);
-
-/// The refusals, as document 01 numbers them.
-const REFUSALS: [&str; 8] = [
-    "a grid's size is out of bounds",
-    "two grids differ in rows or columns",
-    "a grid has more or fewer cells than its rows and columns make",
-    "the cell size is not a finite number above 0",
-    "the limit is NaN, or it is a budget and not above 0",
-    "a time is below 0",
-    "a cell is reached only above the budget from a mask cell",
-    "the bytes are no grid file",
-];
 
 /// The file in words, whichever of the two it is. `size` is that of the grid file that an answer file is for.
 pub fn print(bytes: &[u8], size: Option<Size>) -> Result<String, String> {
@@ -161,11 +151,19 @@ fn print_output(field: &Field, size: Option<Size>) -> String {
 }
 
 fn print_status(status: u8) -> String {
-    if status == 0 {
-        return "answer file: accepted\n".to_owned();
-    }
-    let words = REFUSALS.get(usize::from(status) - 1).unwrap_or(&"which document 01 does not know");
-    format!("answer file: refused by {status}: {words}\n")
+    let refusal = match status {
+        0 => return "answer file: accepted\n".to_owned(),
+        1 => Refusal::SizeOutOfBounds.to_string(),
+        2 => Refusal::SizesDiffer.to_string(),
+        3 => Refusal::WrongLength.to_string(),
+        4 => Refusal::BadCellSize.to_string(),
+        5 => Refusal::BadLimit.to_string(),
+        6 => "a time is below 0".to_owned(),
+        7 => "a cell is reached only above the budget from a mask cell".to_owned(),
+        8 => "the bytes are no grid file".to_owned(),
+        _ => "a number that document 01 does not have".to_owned(),
+    };
+    format!("answer file: refused by {status}: {refusal}\n")
 }
 
 fn print_index(index: u32, size: Option<Size>) -> String {

@@ -112,11 +112,10 @@ impl Layer {
     }
 }
 
-/// A cell of a byte grid. Numbers are compared as f64, so that 254.0000001 is not taken for 254.
+/// A cell of a byte grid. Numbers are read as f64, so that 254.0000001 is not taken for 254.
 pub fn byte(text: &str, header: &Header) -> Result<u8, &'static str> {
     let number: f64 = text.parse().map_err(|_| "is no number")?;
-    let nodata: f64 = header.nodata().parse().map_err(|_| "has no NODATA_value to be compared with")?;
-    if number == nodata || (number.is_nan() && nodata.is_nan()) {
+    if header.is_nodata(number) {
         return Ok(BYTE_NODATA);
     }
     // The cast keeps every number from 0 to 254, and what it changes is then seen to differ.
@@ -128,16 +127,15 @@ pub fn byte(text: &str, header: &Header) -> Result<u8, &'static str> {
     }
 }
 
-/// A cell of a float grid. Nodata is compared as f32, since programs write it with more or fewer digits.
+/// A cell of a float grid.
 pub fn float(text: &str, header: &Header) -> Result<f32, &'static str> {
-    let number = read_float(text).ok_or("is no number that a float holds")?;
-    let nodata = read_float(header.nodata()).unwrap_or(f32::NAN);
-    if number == nodata {
-        Ok(f32::NAN)
-    } else if number.is_nan() && !nodata.is_nan() {
-        Err("is neither a number nor the NODATA_value")
-    } else {
-        Ok(number)
+    if text.parse().is_ok_and(|number| header.is_nodata(number)) {
+        return Ok(f32::NAN);
+    }
+    match read_float(text) {
+        None => Err("is no number that a float holds"),
+        Some(number) if number.is_nan() => Err("is neither a number nor the NODATA_value"),
+        Some(number) => Ok(number),
     }
 }
 

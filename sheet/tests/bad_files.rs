@@ -205,6 +205,24 @@ fn headers_that_agree() {
     }
 }
 
+/// Nodata that has other digits than the header's, and nodata that no float holds.
+#[test]
+fn nodata_of_floats() {
+    let folder = folder("nodata-floats");
+    grid(&folder, "landings.asc", "1 0 0");
+    for (header, nodata) in [
+        ("-3.4028234663852886e+38", "-3.4028235e+38"),
+        ("-1.7976931348623157e+308", "-1.7976931348623157e+308"),
+        ("nan", "-nan"),
+        ("-32768", "-32768.000"),
+    ] {
+        let text = format!("ncols 3\nnrows 1\ncellsize 1\nNODATA_value {header}\n1 {nodata} 0\n");
+        fs::write(folder.join("times.asc"), text).unwrap();
+        said(&folder, "travel_distance --targets landings.asc --times times.asc --out out.asc");
+        assert_eq!(common::cells(&folder, "out.asc"), "0 -9999 inf", "{header}");
+    }
+}
+
 /// Each program's own value for nodata, and the format's where none is said.
 #[test]
 fn nodata_values() {

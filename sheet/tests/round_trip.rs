@@ -1,6 +1,6 @@
 //! What is written comes back bit for bit.
 mod common;
-use std::fs;
+use std::fs::{self, File};
 
 use common::{cells, folder, grid, said};
 use sheet::numbers::{nine_digits, read_float};
@@ -107,7 +107,7 @@ fn infinity_is_read_back() {
     assert_eq!(cells(&folder, "out.asc"), "0 inf inf");
 }
 
-/// The largest grids that the library takes, and those of no cells.
+/// The largest grids that the library takes, and those of no cells, which have no picture.
 #[test]
 fn sizes_to_the_bounds() {
     for (rows, columns) in [(1024, 1024), (32_767, 32), (32, 32_767), (0, 5), (5, 0)] {
@@ -115,10 +115,16 @@ fn sizes_to_the_bounds() {
         let row = vec!["1"; columns].join(" ") + "\n";
         let text = format!("ncols {columns}\nnrows {rows}\ncellsize 10\n{}", row.repeat(rows));
         fs::write(folder.join("landings.asc"), text).unwrap();
-        let said = said(&folder, "distance --targets landings.asc --out out.asc");
+        let picture = if rows * columns == 0 { "" } else { " --picture out.png" };
+        let said = said(&folder, &format!("distance --targets landings.asc --out out.asc{picture}"));
         let zeros = vec!["0"; columns].join(" ") + "\n";
         let expected = format!("ncols {columns}\nnrows {rows}\ncellsize 10\nNODATA_value -9999\n");
         let expected = if columns == 0 { expected } else { expected + &zeros.repeat(rows) };
         assert!(fs::read_to_string(folder.join("out.asc")).unwrap() == expected, "{rows} by {columns}: {said}");
+        if !picture.is_empty() {
+            let reader = png::Decoder::new(File::open(folder.join("out.png")).unwrap()).read_info().unwrap();
+            assert_eq!(reader.info().width as usize, 12 + columns + 12 + 150);
+            assert_eq!(reader.info().height as usize, 32 + rows.max(160 + 12 + 4 * 18) + 12);
+        }
     }
 }
