@@ -2,7 +2,7 @@
 //! little-endian, floats go as their bits.
 use haul::BarrierDiagonals;
 
-use crate::grids::{Case, Cells};
+use crate::grids::{Case, Cells, Layer};
 use crate::roles::Role;
 
 pub const FLAGS: u8 = 0x01;
@@ -29,17 +29,11 @@ pub fn tag(role: Role) -> u8 {
 
 /// The case as a grid file for `haul`.
 pub fn pack(case: &Case) -> Result<Vec<u8>, String> {
-    let header = &case.first().header;
-    let cells = i64::from(header.rows) * i64::from(header.columns);
-    let too_large = || {
-        let file = case.first().path.display();
-        format!("{file} has {cells} cells, and a grid file holds at most {CELLS_MAX}")
-    };
-    if usize::try_from(cells).is_ok_and(|cells| cells > CELLS_MAX) {
-        return Err(too_large());
+    let Layer { path, header, cells, .. } = case.first();
+    if cells.len() > CELLS_MAX {
+        return Err(format!("{} has {} cells, and a grid file holds at most {CELLS_MAX}", path.display(), cells.len()));
     }
-    let side = |cells: i32| u16::try_from(cells).map_err(|_| too_large());
-    let (rows, columns) = (side(header.rows)?, side(header.columns)?);
+    let [rows, columns] = [header.rows, header.columns].map(|side| u16::try_from(side).expect("a side is in bounds"));
     let flags = [case.search.number(), u8::from(case.diagonals == BarrierDiagonals::Exclude), u8::from(case.adjacent)];
     let cell_size = if case.search.has_cell_size() { case.cell_size() } else { 0.0 };
 

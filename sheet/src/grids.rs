@@ -37,6 +37,19 @@ pub enum Cells {
     Floats(Vec<f32>),
 }
 
+impl Cells {
+    pub fn len(&self) -> usize {
+        match self {
+            Cells::Bytes(cells) => cells.len(),
+            Cells::Floats(cells) => cells.len(),
+        }
+    }
+
+    pub fn is_empty(&self) -> bool {
+        self.len() == 0
+    }
+}
+
 impl Case {
     /// Reads the grids that are asked for.
     pub fn read(asked: &Asked) -> Result<Case, String> {

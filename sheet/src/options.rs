@@ -125,42 +125,52 @@ fn asked(command: &Command, given: Given) -> Result<Asked, String> {
     let has_obstacles = given.grids.iter().any(|(role, _)| *role == Role::Obstacles);
     let search =
         if command.name == "distance" && has_obstacles { Search::DistanceWithObstacles } else { command.search };
-    let name = search.name();
-    let not_taken = [
-        ("limit", given.limit.is_some(), search.has_limit()),
-        ("diagonals", given.diagonals.is_some(), search.has_diagonals()),
-        ("adjacent", given.adjacent, search.has_adjacent()),
-        ("nodata-starts", given.nodata_starts, search.starts_at_nodata()),
-    ];
-    if let Some((option, ..)) = not_taken.into_iter().find(|(_, given, taken)| *given && !taken) {
-        return Err(format!("{name} takes no --{option}"));
-    }
-    let limit = match given.limit {
-        Some(limit) => limit,
-        None if !search.has_limit() => 0.0,
-        None if command.limit_may_be_left_out => f32::INFINITY,
-        None => return Err(format!("{name} wants --limit")),
-    };
-    let diagonals = match given.diagonals {
-        Some(diagonals) => diagonals,
-        None if !search.has_diagonals() => BarrierDiagonals::Include,
-        None => {
-            return Err(format!(
-                "{name} wants --diagonals: `exclude` if a machine can't go between two obstacles that meet at a corner, \
-                 `include` if it can"
-            ));
-        }
-    };
+    refuse_what_is_not_taken(search, &given)?;
     Ok(Asked {
         search,
+        limit: limit_of(search, given.limit, command.limit_may_be_left_out)?,
+        diagonals: diagonals_of(search, given.diagonals)?,
         grids: grids_of(search, given.grids)?,
-        limit,
-        diagonals,
         adjacent: given.adjacent,
         nodata_starts: given.nodata_starts,
         out: given.out,
         picture: given.picture,
     })
+}
+
+fn refuse_what_is_not_taken(search: Search, given: &Given) -> Result<(), String> {
+    let options = [
+        ("limit", given.limit.is_some(), search.has_limit()),
+        ("diagonals", given.diagonals.is_some(), search.has_diagonals()),
+        ("adjacent", given.adjacent, search.has_adjacent()),
+        ("nodata-starts", given.nodata_starts, search.starts_at_nodata()),
+    ];
+    match options.into_iter().find(|(_, given, taken)| *given && !taken) {
+        None => Ok(()),
+        Some((option, ..)) => Err(format!("{} takes no --{option}", search.name())),
+    }
+}
+
+fn limit_of(search: Search, given: Option<f32>, may_be_left_out: bool) -> Result<f32, String> {
+    match given {
+        Some(limit) => Ok(limit),
+        None if !search.has_limit() => Ok(0.0),
+        None if may_be_left_out => Ok(f32::INFINITY),
+        None => Err(format!("{} wants --limit", search.name())),
+    }
+}
+
+/// There is no choice that is right unless it is said: a route depends on it.
+fn diagonals_of(search: Search, given: Option<BarrierDiagonals>) -> Result<BarrierDiagonals, String> {
+    match given {
+        Some(diagonals) => Ok(diagonals),
+        None if !search.has_diagonals() => Ok(BarrierDiagonals::Include),
+        None => Err(format!(
+            "{} wants --diagonals: `exclude` if a machine can't go between two obstacles that meet at a corner, \
+             `include` if it can",
+            search.name()
+        )),
+    }
 }
 
 /// The search's grids in its order, none lacking and none left over.
