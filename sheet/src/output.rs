@@ -22,7 +22,8 @@ impl Drop for Beside {
     }
 }
 
-/// Writes all files or, where one can't be written, none: what stood in their places is then untouched.
+/// Writes all files or, where one can't be written, none: what stood in their places is then untouched. Only a rename
+/// that fails after another was made, as when a folder is taken away in between, leaves that other one made.
 pub fn write_all(files: &[Written]) -> Result<(), String> {
     let mut beside = Vec::new();
     for file in files {
