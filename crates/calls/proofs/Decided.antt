@@ -1,10 +1,12 @@
--- A promise `told answer ≡ tell outcome` decides the answer: two answers that tell the same are one. Assumes nothing.
+-- A promise `told answer ≡ tell outcome` decides the answer: two answers that tell the same are one. So does `judged-as judged ≡ refusals` what was
+-- judged. Assumes nothing.
 use mathlib.Core.Path.{_≡_, refl, sym, ap, _∙_}
 use mathlib.Core.Bool.{cond}
 use lib.Dec.{eqb}
 use Rattle.rules.specs.Sizes as rules
-use Rattle.rules.specs.Sizes.{number, number-at, Outcome}
-use Rattle.calls.specs.Answer.{Refusal, SizeOutOfBounds, SizesDiffer, WrongLength, BadCellSize, BadLimit, NegativeTime, OverBudget, Answer, Accepted, Refused, refusal-number, Told, refusal, takes, told, tell}
+use Rattle.rules.specs.Sizes.{number, number-at, passes, stops, Outcome}
+use Rattle.rules.proofs.Decided.{reading-decides}
+use Rattle.calls.specs.Answer.{Refusal, SizeOutOfBounds, SizesDiffer, WrongLength, BadCellSize, BadLimit, NegativeTime, OverBudget, Judged, Passes, Stops, Answer, Accepted, Refused, refusal-number, judged-as, Told, refusal, takes, told, tell}
 
 -- From document 01's numbers back to the code's cases. What no case has is sent anywhere.
 refusal-of : rules.Refusal → Refusal
@@ -30,6 +32,15 @@ unfolding answer-of
 answer-back (Accepted counts) = refl
 answer-back (Refused r) = ap Refused (refusal-back r)
 
+judged-of : rules.Judged → Judged
+judged-of passes = Passes
+judged-of (stops r) = Stops (refusal-of r)
+
+judged-back : (j : Judged) → judged-of (judged-as j) ≡ j
+unfolding judged-of
+judged-back Passes = refl
+judged-back (Stops r) = ap Stops (refusal-back r)
+
 -- Different refusals have different numbers or indices.
 pub number-decides : (r s : Refusal) → refusal-number r ≡ refusal-number s → r ≡ s
 number-decides r s same = sym (refusal-back r) ∙ ap refusal-of same ∙ refusal-back s
@@ -37,5 +48,12 @@ number-decides r s same = sym (refusal-back r) ∙ ap refusal-of same ∙ refusa
 pub told-decides : (a b : Answer) → told a ≡ told b → a ≡ b
 told-decides a b same = sym (answer-back a) ∙ ap answer-of same ∙ answer-back b
 
+-- `judge_1` to `judge_8`: what two judgements say in document 01's numbers decides them.
+pub judged-decides : (a b : Judged) → judged-as a ≡ judged-as b → a ≡ b
+judged-decides a b same = sym (judged-back a) ∙ ap judged-of same ∙ judged-back b
+
+pub refusals-decide : {refusals : rules.Judged} (a b : Judged) → judged-as a ≡ refusals → judged-as b ≡ refusals → a ≡ b
+refusals-decide a b = reading-decides judged-as judged-decides a b
+
 pub outcome-decides : (outcome : Outcome) (a b : Answer) → told a ≡ tell outcome → told b ≡ tell outcome → a ≡ b
-outcome-decides outcome a b a-tells b-tells = told-decides a b (a-tells ∙ sym b-tells)
+outcome-decides outcome a b = reading-decides told told-decides a b

@@ -5,3 +5,4 @@ pub mod Storing
 pub mod NeighbourLists
 pub mod NeighbourArray
 pub mod RingContents
+pub mod Decided

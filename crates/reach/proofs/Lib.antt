@@ -5,3 +5,4 @@ pub mod Sums
 pub mod Adjoining
 pub mod Around
 pub mod Rules
+pub mod Decided

@@ -1,3 +1,4 @@
+pub mod Decided
 pub mod Grids
 pub mod Neighbours
 pub mod AddedCosts

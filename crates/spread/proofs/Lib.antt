@@ -14,3 +14,4 @@ pub mod Running
 pub mod Tracing
 pub mod Agrees
 pub mod Results
+pub mod Decided
