@@ -27,11 +27,10 @@ pub record SameReport (Left : Answer → Answer → Type 0) (takes₁ takes₂ i
 -- Where the search's promise decides its call, it decides the report. Proof: the answers are one, so that both reports are of what it tells.
 exported-decides :
     {P Q : Answer → Type 0} {Left : Answer → Answer → Type 0} {takes takes₁ takes₂ index index₁ index₂ r s : ℕ}
-    → ({a b : Answer} → P a → Q b → Left a b) → ({a b : Answer} → Left a b → a ≡ b)
-    → Exported P takes takes₁ index index₁ r → Exported Q takes takes₂ index index₂ s → SameReport Left takes₁ takes₂ index₁ index₂ r s
-exported-decides {takes = takes} {index = index} decided said p q =
-    let left = decided (p .promised) (q .promised) in
-    let same = ap told (said left) in
+    (p : Exported P takes takes₁ index index₁ r) (q : Exported Q takes takes₂ index index₂ s) → Left (p .answer) (q .answer) → p .answer ≡ q .answer
+    → SameReport Left takes₁ takes₂ index₁ index₂ r s
+exported-decides {takes = takes} {index = index} p q left said =
+    let same = ap told said in
     record {
       status = equation-decides (p .reported .status-is ∙ ap status same) (q .reported .status-is);
       takes = equation-decides (p .reported .takes-are ∙ ap (λ (t : Told). takes-after t takes) same) (q .reported .takes-are);
@@ -52,21 +51,27 @@ module _
         → ExportedUpTo rows columns targets cell-size limit (slice answer answer₁) (slice marks marks₁) (slice queue queue₁) takes takes₁ index index₁ r
         → ExportedUpTo rows columns targets cell-size limit (slice answer answer₂) (slice marks marks₂) (slice queue queue₂) takes takes₂ index index₂ s
         → SameReport (λ a b. Same a b answer₁ answer₂ marks₁ marks₂ queue₁ queue₂) takes₁ takes₂ index₁ index₂ r s
-    exported-up-to-decides cell-size limit = exported-decides (distances-up-to-decided (size rows columns) targets (spacing cell-size limit)) (λ left. left .said)
+    exported-up-to-decides cell-size limit p q =
+        let left = distances-up-to-decided (size rows columns) targets (spacing cell-size limit) (p .promised) (q .promised) in
+        exported-decides p q left (left .said)
 
     pub exported-obstacles-decides :
         (obstacle-rows obstacle-columns : ℤ) (obstacles : List ℕ) (cell-size : Float) (diagonals : ℕ)
         → ExportedObstacles rows columns targets obstacle-rows obstacle-columns obstacles cell-size diagonals (slice answer answer₁) (slice marks marks₁) (slice queue queue₁) takes takes₁ index index₁ r
         → ExportedObstacles rows columns targets obstacle-rows obstacle-columns obstacles cell-size diagonals (slice answer answer₂) (slice marks marks₂) (slice queue queue₂) takes takes₂ index index₂ s
         → SameReport (λ a b. Same a b answer₁ answer₂ marks₁ marks₂ queue₁ queue₂) takes₁ takes₂ index₁ index₂ r s
-    exported-obstacles-decides obstacle-rows obstacle-columns obstacles cell-size diagonals = exported-decides (distance-with-obstacles-decided (size rows columns) targets (size obstacle-rows obstacle-columns) obstacles (spacing cell-size plus-zero) (diagonals-of diagonals)) (λ left. left .said)
+    exported-obstacles-decides obstacle-rows obstacle-columns obstacles cell-size diagonals p q =
+        let left = distance-with-obstacles-decided (size rows columns) targets (size obstacle-rows obstacle-columns) obstacles (spacing cell-size plus-zero) (diagonals-of diagonals) (p .promised) (q .promised) in
+        exported-decides p q left (left .said)
 
     pub exported-travel-up-to-decides :
         (time-rows time-columns : ℤ) (times : List Float) (limit : Float)
         → ExportedTravelUpTo rows columns targets time-rows time-columns times limit (slice answer answer₁) (slice marks marks₁) (slice queue queue₁) takes takes₁ index index₁ r
         → ExportedTravelUpTo rows columns targets time-rows time-columns times limit (slice answer answer₂) (slice marks marks₂) (slice queue queue₂) takes takes₂ index index₂ s
         → SameReport (λ a b. Same a b answer₁ answer₂ marks₁ marks₂ queue₁ queue₂) takes₁ takes₂ index₁ index₂ r s
-    exported-travel-up-to-decides time-rows time-columns times limit = exported-decides (travel-distances-up-to-decided (size rows columns) targets (size time-rows time-columns) times limit) (λ left. left .said)
+    exported-travel-up-to-decides time-rows time-columns times limit p q =
+        let left = travel-distances-up-to-decided (size rows columns) targets (size time-rows time-columns) times limit (p .promised) (q .promised) in
+        exported-decides p q left (left .said)
 
 -- ---- searches 4, 5 and 6
 
@@ -78,21 +83,27 @@ module _
         ExportedClosest rows columns targets value-rows value-columns values (slice answer answer₁) (slice distances distances₁) (slice marks marks₁) (slice queue queue₁) takes takes₁ index index₁ r
         → ExportedClosest rows columns targets value-rows value-columns values (slice answer answer₂) (slice distances distances₂) (slice marks marks₂) (slice queue queue₂) takes takes₂ index index₂ s
         → SameReport (λ a b. SameValues a b answer₁ answer₂ distances₁ distances₂ marks₁ marks₂ queue₁ queue₂) takes₁ takes₂ index₁ index₂ r s
-    exported-closest-decides = exported-decides (value-at-closest-target-decided (size rows columns) targets (size value-rows value-columns) values) (λ left. left .same .said)
+    exported-closest-decides p q =
+        let left = value-at-closest-target-decided (size rows columns) targets (size value-rows value-columns) values (p .promised) (q .promised) in
+        exported-decides p q left (left .same .said)
 
     pub exported-closest-travel-decides :
         (time-rows time-columns : ℤ) (times : List Float)
         → ExportedClosestTravel rows columns targets time-rows time-columns times value-rows value-columns values (slice answer answer₁) (slice distances distances₁) (slice marks marks₁) (slice queue queue₁) takes takes₁ index index₁ r
         → ExportedClosestTravel rows columns targets time-rows time-columns times value-rows value-columns values (slice answer answer₂) (slice distances distances₂) (slice marks marks₂) (slice queue queue₂) takes takes₂ index index₂ s
         → SameReport (λ a b. SameValues a b answer₁ answer₂ distances₁ distances₂ marks₁ marks₂ queue₁ queue₂) takes₁ takes₂ index₁ index₂ r s
-    exported-closest-travel-decides time-rows time-columns times = exported-decides (value-at-closest-travel-target-decided (size rows columns) targets (size time-rows time-columns) times (size value-rows value-columns) values) (λ left. left .same .said)
+    exported-closest-travel-decides time-rows time-columns times p q =
+        let left = value-at-closest-travel-target-decided (size rows columns) targets (size time-rows time-columns) times (size value-rows value-columns) values (p .promised) (q .promised) in
+        exported-decides p q left (left .same .said)
 
     pub exported-closest-less-than-decides :
         (time-rows time-columns : ℤ) (times : List Float) (limit : Float)
         → ExportedClosestLessThan rows columns targets time-rows time-columns times value-rows value-columns values limit (slice answer answer₁) (slice distances distances₁) (slice marks marks₁) (slice queue queue₁) takes takes₁ index index₁ r
         → ExportedClosestLessThan rows columns targets time-rows time-columns times value-rows value-columns values limit (slice answer answer₂) (slice distances distances₂) (slice marks marks₂) (slice queue queue₂) takes takes₂ index index₂ s
         → SameReport (λ a b. SameValues a b answer₁ answer₂ distances₁ distances₂ marks₁ marks₂ queue₁ queue₂) takes₁ takes₂ index₁ index₂ r s
-    exported-closest-less-than-decides time-rows time-columns times limit = exported-decides (value-at-closest-less-than-travel-target-decided (size rows columns) targets (size time-rows time-columns) times (size value-rows value-columns) values limit) (λ left. left .same .said)
+    exported-closest-less-than-decides time-rows time-columns times limit p q =
+        let left = value-at-closest-less-than-travel-target-decided (size rows columns) targets (size time-rows time-columns) times (size value-rows value-columns) values limit (p .promised) (q .promised) in
+        exported-decides p q left (left .same .said)
 
 -- ---- search 7
 
@@ -104,7 +115,9 @@ module _
         ExportedSumWithin rows columns mask time-rows time-columns times value-rows value-columns values limit with-adjacent (slice answer answer₁) (slice distances distances₁) (slice marks marks₁) (slice listed listed₁) (slice adjacent adjacent₁) (slice queue queue₁) takes takes₁ index index₁ r
         → ExportedSumWithin rows columns mask time-rows time-columns times value-rows value-columns values limit with-adjacent (slice answer answer₂) (slice distances distances₂) (slice marks marks₂) (slice listed listed₂) (slice adjacent adjacent₂) (slice queue queue₂) takes takes₂ index index₂ s
         → SameReport (λ a b. SameSums a b answer₁ answer₂ distances₁ distances₂ marks₁ marks₂ listed₁ listed₂ adjacent₁ adjacent₂ queue₁ queue₂) takes₁ takes₂ index₁ index₂ r s
-    exported-sum-within-decides = exported-decides (sum-within-decided (size rows columns) mask (size time-rows time-columns) times (size value-rows value-columns) values limit (yes with-adjacent)) (λ left. left .same .said)
+    exported-sum-within-decides p q =
+        let left = sum-within-decided (size rows columns) mask (size time-rows time-columns) times (size value-rows value-columns) values limit (yes with-adjacent) (p .promised) (q .promised) in
+        exported-decides p q left (left .same .said)
 
 -- ---- search 8
 
@@ -116,4 +129,6 @@ module _
         ExportedSumTargets rows columns times amount-rows amount-columns amounts limit (slice answer answer₁) (slice distances distances₁) (slice marks marks₁) (slice added added₁) (slice queue queue₁) takes takes₁ index index₁ r
         → ExportedSumTargets rows columns times amount-rows amount-columns amounts limit (slice answer answer₂) (slice distances distances₂) (slice marks marks₂) (slice added added₂) (slice queue queue₂) takes takes₂ index index₂ s
         → SameReport (λ a b. SameGains a b answer₁ answer₂ distances₁ distances₂ marks₁ marks₂ added₁ added₂ queue₁ queue₂) takes₁ takes₂ index₁ index₂ r s
-    exported-sum-targets-decides = exported-decides (sum-targets-decided (size rows columns) times (size amount-rows amount-columns) amounts limit) (λ left. left .same .said)
+    exported-sum-targets-decides p q =
+        let left = sum-targets-decided (size rows columns) times (size amount-rows amount-columns) amounts limit (p .promised) (q .promised) in
+        exported-decides p q left (left .same .said)
