@@ -1,27 +1,14 @@
 -- The test on the lengths of slices, made one part after the other. Assumes nothing.
-use mathlib.Core.Path.{_≡_, refl, sym, ap, _∙_}
-use mathlib.Core.Bool.{Bool, true, false, not, _||_}
-use mathlib.Core.List.{List, [], _∷_, _++_}
+use mathlib.Core.Path.{_≡_, sym, _∙_}
+use mathlib.Core.Bool.{true, false, not, _||_, or-true}
+use mathlib.Core.List.{List}
 use Prim.Native.Nat.{ℕ, suc, _+_}
 use native.Mathlib.Numerals.{add-one}
 use lib.Dec.{eqb}
 use Rattle.rules.specs.declared.Size.{Size}
-use Rattle.rules.specs.Sizes.{any, count}
-use Rattle.calls.specs.Given.{lent, other-than, wrong-length}
-
-or-assoc : (a b c : Bool) → ((a || b) || c) ≡ (a || (b || c))
-or-assoc true b c = refl
-or-assoc false b c = refl
-
-or-true : (a : Bool) → (a || true) ≡ true
-or-true true = refl
-or-true false = refl
-
--- One of two lists together passes where one of either does.
-any-append : {A : Type 0} (test : A → Bool) (xs ys : List A) → any test (xs ++ ys) ≡ (any test xs || any test ys)
-unfolding any
-any-append test [] ys = refl
-any-append test (a ∷ xs) ys = ap (λ (rest : Bool). test a || rest) (any-append test xs ys) ∙ sym (or-assoc (test a) (any test xs) (any test ys))
+use Rattle.rules.specs.Sizes.{count, other-than, wrong-length, any}
+use Rattle.rules.proofs.Any.{any-append}
+use Rattle.calls.specs.Given.{lent}
 
 module _ (size : Size) (inputs slices : List ℕ) (queue : ℕ) {n : ℕ} (counted : n ≡ count size) where
   parts : wrong-length size inputs (lent slices queue) ≡ ((any (other-than n) inputs || any (other-than n) slices) || not (eqb queue (suc n)))

@@ -1,6 +1,6 @@
 -- What is known of sizes and lengths where a call is not refused for them. Assumes nothing.
 use mathlib.Core.Path.{_≡_, sym, ap, _∙_}
-use mathlib.Core.Bool.{Bool, true, false}
+use mathlib.Core.Bool.{Bool, false}
 use mathlib.Core.List.{List, [], _∷_, _++_}
 use Prim.Native.Nat.{ℕ, suc}
 use native.Mathlib.Nat.{le-antisymm}
@@ -9,10 +9,9 @@ use mir.Facts.{and-yes}
 use lib.Dec.{T, leb, eqb, leb→le}
 use lib.IntN.{ℤ, pos, negsuc}
 use Rattle.rules.specs.declared.Size.{Size}
-use Rattle.rules.specs.Sizes.{Refusal, passes, Lent, any, shape, in-bounds, same-number, same-size, count}
+use Rattle.rules.specs.Sizes.{Refusal, passes, Lent, any, shape, in-bounds, same-number, same-size, count, differs, other-than}
+use Rattle.rules.proofs.Any.{neither}
 use Rattle.cells.proofs.Bounds.{passed as test-passed}
-use Rattle.calls.specs.Given.{differs, other-than}
-use Rattle.calls.proofs.Scans.{or-fails}
 use Rattle.calls.proofs.Judgements.{Comes, passed}
 
 -- Each of a list is a.
@@ -31,7 +30,7 @@ pub record Shaped (size : Size) (others : List Size) (inputs : List ℕ) (lent :
 all-are : {A : Type 0} {a : A} (test : A → Bool) → ((b : A) → test b ≡ false → b ≡ a) → (xs : List A) → any test xs ≡ false → AllAre a xs
 unfolding any
 all-are test is [] none = tt
-all-are test is (b ∷ xs) none = let parts = or-fails (test b) (any test xs) none in (is b (parts .0), all-are test is xs (parts .1))
+all-are test is (b ∷ xs) none = let parts = neither (test b) (any test xs) none in (is b (parts .0), all-are test is xs (parts .1))
 
 same-number-is : (k l : ℤ) → T (same-number k l) → k ≡ l
 same-number-is (pos a) (pos b) e = let both = and-yes (leb a b) (leb b a) e in ap pos (le-antisymm (leb→le a b (both .0)) (leb→le b a (both .1)))
@@ -51,14 +50,10 @@ module _ (size : Size) (others : List Size) (inputs : List ℕ) (lent : Lent) (m
   shaped =
       let after-1 = passed comes in
       let after-2 = passed (after-1 .1) in
-      let lengths = or-fails _ _ (passed (after-2 .1) .0) in
+      let lengths = neither _ _ (passed (after-2 .1) .0) in
       record {
-        within = test-passed (not-false (in-bounds size) (or-fails _ _ (after-1 .0) .0));
+        within = test-passed (not-false (in-bounds size) (neither _ _ (after-1 .0) .0));
         alike = all-are (differs size) (same-size-is size) others (after-2 .0);
         long = all-are (other-than (count size)) (λ l e. eqb-true l (count size) (not-false (eqb l (count size)) e)) (inputs ++ lent .slices) (lengths .0);
         queue-long = eqb-true (lent .queue) (suc (count size)) (not-false (eqb (lent .queue) (suc (count size))) (lengths .1));
       }
-
-  pub others-pass : Comes more passes
-  unfolding shape
-  others-pass = passed (passed (passed comes .1) .1) .1

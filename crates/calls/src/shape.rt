@@ -8,9 +8,9 @@ use rules::Size;
 ghost use mathlib.Core.Path.{_≡_};
 ghost use mathlib.Core.List.{[], _∷_};
 ghost use lib.Dec.{T};
-ghost use Rattle.rules.specs.Sizes.{in-bounds, any, first-that-holds, shape};
+ghost use Rattle.rules.specs.Sizes.{in-bounds, other-than, wrong-length, any, first-that-holds, shape};
 ghost use Rattle.calls.specs.Answer.{judged-as};
-ghost use Rattle.calls.specs.Given.{lent, other-than, wrong-length};
+ghost use Rattle.calls.specs.Given.{lent};
 
 // Whether a length is not n.
 fn any_other(n: usize, lengths: &[usize]) -> bool

@@ -90,12 +90,6 @@ module _ {L : Type 0} (net : Net L) where
   scan-append d [] more s = refl
   scan-append d (step ∷ done) more s = scan-append d done more (relax net d step s)
 
-  pub scan-last :
-      (d : L) (done : List (ℕ × (L → L))) (step : ℕ × (L → L)) (s : State L)
-      → scan net d (done ++ step ∷ []) s ≡ relax net d step (scan net d done s)
-  unfolding scan
-  scan-last d done step s = scan-append d done (step ∷ []) s
-
   pub take-is-scan : (u : ℕ) (ws : List ℕ) (s : State L) → take net u ws s ≡ scan net (label net s u) (net .nbrs u) (awaiting ws s)
   unfolding take
   take-is-scan u ws s = refl

@@ -233,15 +233,11 @@ room-for-new n v ws single inside below new =
     let most = length-passing (λ c. true) 0 n in
     omega arith
 
--- A range cut in two, and with one number more.
+-- A range cut in two.
 pub table-append : {L : Type 0} (f : ℕ → L) (i j k : ℕ) → table f i (j + k) ≡ table f i j ++ table f (i + j) k
 unfolding table
 table-append f i zero k = rw (zero-add, add-zero)
 table-append f i (suc j) k = rw (suc-add, add-suc, ← suc-add) (ap (λ l. f i ∷ l) (table-append f (suc i) j k))
-
-pub table-last : {L : Type 0} (f : ℕ → L) (k : ℕ) → table f 0 (k + 1) ≡ table f 0 k ++ f k ∷ []
-unfolding table
-table-last f k = table-append f 0 k 1 ∙ ap (λ n. table f 0 k ++ f n ∷ []) (zero-add k)
 
 pub passing-append : (test : ℕ → Bool) (i j k : ℕ) → passing test i (j + k) ≡ passing test i j ++ passing test (i + j) k
 unfolding passing

@@ -7,11 +7,11 @@ use Prim.Native.Nat.{ℕ, _<_, _≤_}
 use native.Mathlib.Nat.{zero-add}
 use native.Mathlib.Omega.{arith}
 use lib.ListN.{length, getD}
-use Rattle.fifo.specs.Machine.{Net, State, table, passing, initial, label, store, scan, take, run}
+use Rattle.fifo.specs.Machine.{Net, State, table, passing, initial, label, store, take, run}
 use Rattle.fifo.specs.Walk.{In, NoDup, Starting}
 use Rattle.fifo.specs.Laws.{room, Enterable, Step, Laws, Held, Sound}
 use Rattle.fifo.proofs.Lists.{tested, holds, is-true, true-or-false, joined-cases, no-dup-joined, no-dup-no-longer, in-passing, passing-in, no-dup-passing, length-passing, length-table, getD-table}
-use Rattle.fifo.proofs.Induction.{awaiting, after-store, label-unstored, label-awaiting, length-store, waiting-store, Kept, scan-keeps, take-keeps, run-keeps}
+use Rattle.fifo.proofs.Induction.{awaiting, after-store, label-unstored, label-awaiting, length-store, waiting-store, Kept, take-keeps, run-keeps}
 use Rattle.fifo.proofs.Order.{not-below-lower}
 
 -- At the start each cell has its first label.
@@ -102,19 +102,12 @@ module _ {L : Type 0} {net : Net L} (laws : Laws net) where
         (λ p. not-below-lower laws good (sound .held v inside) good-y lower (subst (λ b. net .below y (label net s b) ≡ false) p above))
         (λ _. above)
 
-  -- Soundness is kept through a take, and through a part of one.
+  -- Soundness is kept through a take.
   pub sound-kept : {s : State L} {u : ℕ} {ws : List ℕ} → Sound laws s → s .waiting ≡ u ∷ ws → Kept net (Sound laws) (label net s u) (net .nbrs u)
   sound-kept {s} {u} sound e v f i t lower = sound-store v (f (label net s u)) t (candidate-inside sound e v f i) (candidate-good sound e v f i)
 
   pub sound-take : (u : ℕ) (ws : List ℕ) (s : State L) → s .waiting ≡ u ∷ ws → Sound laws s → Sound laws (take net u ws s)
   sound-take u ws s e sound = take-keeps net (Sound laws) u ws s (sound-kept sound e) (sound-awaiting sound e)
-
-  pub sound-part :
-      (u : ℕ) (ws : List ℕ) (s : State L) → s .waiting ≡ u ∷ ws → Sound laws s
-      → (steps : List (ℕ × (L → L))) → ((v : ℕ) (f : L → L) → In (v, f) steps → In (v, f) (net .nbrs u))
-      → Sound laws (scan net (label net s u) steps (awaiting ws s))
-  sound-part u ws s e sound steps of-u =
-      scan-keeps net (Sound laws) (label net s u) steps (λ v f i. sound-kept sound e v f (of-u v f i)) (awaiting ws s) (sound-awaiting sound e)
 
   pub sound-run : (k : ℕ) (s : State L) → Sound laws s → Sound laws (run net k s)
   sound-run = run-keeps net (Sound laws) sound-take

@@ -8,7 +8,8 @@ use Rattle.fifo.specs.Machine.{Net, State, label, store, take, run, trac
 use Rattle.fifo.specs.Walk.{In}
 use Rattle.fifo.specs.Laws.{Laws, Sound, Accounted}
 use Rattle.fifo.proofs.Lists.{same-or-not, in-front, in-back, in-joined, joiner-in, joined-cases}
-use Rattle.fifo.proofs.Induction.{label-awaiting, label-unstored, waiting-store, entered-store, Kept, take-keeps, take-appends, run-zero, run-stopped, run-head, trace-zero, trace-stopped, trace-head, by-takes, run-keeps}
+use Rattle.fifo.proofs.Induction.{label-awaiting, label-unstored, waiting-store, entered-store, Kept, take-keeps, take-appends, run-zero, run-stopped, run-head, trace-zero, trace-stopped, trace-head, by-takes}
+use Rattle.fifo.proofs.Entries.{entered-stays}
 use Rattle.fifo.proofs.Order.{not-below-itself}
 use Rattle.fifo.proofs.Sound.{head-in, head-good, sound-take, never-rises}
 use Rattle.fifo.proofs.Labels.{accounted-take}
@@ -74,13 +75,6 @@ module _ {L : Type 0} (net : Net L) where
           rw (run-head net k s u ws e, trace-head net k s u ws e, ← append-assoc past last (trace net k (take net u ws s)))
           (later (past ++ last) (seen-take u ws s e past seen))
 
-  -- What is entered stays so.
-  pub entered-kept : (c : ℕ) (k : ℕ) (s : State L) → In c (s .entered) → In c (run net k s .entered)
-  entered-kept c = run-keeps net (λ t. In c (t .entered)) (λ u ws s e i. take-keeps net (λ t. In c (t .entered)) u ws s (kept u s) i)
-    where
-      kept : (u : ℕ) (s : State L) → Kept net (λ t. In c (t .entered)) (label net s u) (net .nbrs u)
-      kept u s v f j t lower p = rw entered-store (in-joined c v (t .entered) p)
-
   -- To prove something of every cell that a run takes, prove it of the first and pass it on from the rest.
   pub each-taken :
       (P : ℕ → State L → ℕ → L → Type 0) (Q : State L → Type 0)
@@ -117,6 +111,6 @@ module _ {L : Type 0} {net : Net L} (laws : Laws net) where
   taken-entered k s sound acc =
       each-taken net (λ k s c d. In c (run net k s .entered)) (λ s. Sound laws s × Accounted laws (s .waiting) s)
       (λ u ws s e p. (sound-take laws u ws s e (p .0), accounted-take laws u ws s e (p .0) (p .1)))
-      (λ k u ws s e p. entered-kept net u (suc k) s (p .1 .waiting-entered u (head-in laws (p .0) e)))
+      (λ k u ws s e p. entered-stays net u (suc k) s (p .1 .waiting-entered u (head-in laws (p .0) e)))
       (λ k u ws s e c d i. rw (run-head net k s u ws e) i)
       k s (sound, acc)

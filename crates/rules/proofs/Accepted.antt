@@ -6,11 +6,11 @@ use Prim.Native.Nat.{ℕ}
 use lib.Dec.{T}
 use lib.Ieee.{Float, isNan, le}
 use Rattle.binary32.specs.Numbers.{plus-zero}
-use Rattle.rules.specs.Sizes.{Size, Grid, Spacing, Lent, Refusal, Judged, passes, stops, in-bounds, any, first-that-holds, shape, below-zero}
+use Rattle.rules.specs.Sizes.{Size, Grid, Spacing, Lent, Refusal, Judged, passes, stops, in-bounds, out-of-bounds, any, first-that-holds, shape, below-zero}
 use Rattle.rules.specs.Distances.{refusals-1, refusals-2, refusals-3}
-use Rattle.rules.specs.Values.{refusals-4, refusals-5, refusals-6}
+use Rattle.rules.specs.Values.{refusals-5, refusals-6}
 use Rattle.rules.specs.Sums.{refusals-7, refusals-8}
-use Rattle.rules.proofs.Inputs.{neither}
+use Rattle.rules.proofs.Any.{neither}
 
 abbrev Passed : Judged → Type 0
 Passed passes = Unit {0}
@@ -32,13 +32,13 @@ not-false false e = absurd (subst T e tt)
 -- After the tests of the shape the first grid is in bounds, so are the others, and the search's own tests are left.
 after-shape :
     (size : Size) (others : List Size) (inputs : List ℕ) (lent : Lent) (more : List (Bool × Refusal)) → first-that-holds (shape size others inputs lent more) ≡ passes
-    → T (in-bounds size) × (any (λ s. not (in-bounds s)) others ≡ false) × (first-that-holds more ≡ passes)
+    → T (in-bounds size) × (any out-of-bounds others ≡ false) × (first-that-holds more ≡ passes)
 unfolding shape any
 after-shape size others inputs lent more e =
     let (bounds, e) = not-held _ _ e in
     let (sizes, e) = not-held _ _ e in
     let (lengths, e) = not-held _ _ e in
-    let (first, rest) = neither (not (in-bounds size)) (any (λ s. not (in-bounds s)) others) bounds in
+    let (first, rest) = neither (not (in-bounds size)) (any out-of-bounds others) bounds in
     (not-false (in-bounds size) first, rest, e)
 
 -- ---- each search: its grids are in bounds, its limit is no NaN, its budget is above 0, and no time is below 0
@@ -62,10 +62,6 @@ accepted-3 targets times cap lent e =
     let (bounds, others, e) = after-shape _ _ _ _ _ e in
     let (limit, e) = not-held _ _ e in
     (bounds, limit, (not-held _ _ e) .0)
-
-pub accepted-4 : (targets : Grid ℕ) (values : Grid Float) (lent : Lent) → refusals-4 targets values lent ≡ passes → T (in-bounds (targets .size))
-unfolding refusals-4
-accepted-4 targets values lent e = (after-shape _ _ _ _ _ e) .0
 
 pub accepted-5 :
     (targets : Grid ℕ) (times values : Grid Float) (lent : Lent) → refusals-5 targets times values lent ≡ passes

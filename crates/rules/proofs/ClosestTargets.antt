@@ -1,6 +1,6 @@
 -- Searches 4, 5 and 6: each reached cell holds the value of a target from which a permitted path leads to it with the least sum. Assumes nothing.
 use mathlib.Core.Bool.{Bool, true, false, not, cond, _||_}
-use mathlib.Core.Logic.{_⊎_, inl, inr, ⊎-elim}
+use mathlib.Core.Logic.{inl, inr, ⊎-elim}
 use mathlib.Core.Path.{_≡_, refl, sym, ap, _∙_, subst}
 use Prim.Native.Nat.{ℕ, suc, _*_, _<_}
 use lib.Dec.{T, eqb, eqb-refl}
@@ -25,7 +25,7 @@ use Rattle.rules.proofs.AddedCosts.{AddsCosts, laws-of-costs}
 use Rattle.rules.proofs.Inputs.{AcceptedTimes}
 use Rattle.rules.proofs.Nets.{closest-costs, closest-by-time-costs}
 use Rattle.rules.proofs.Squares.{laws-end}
-use Rattle.rules.proofs.LeastSums.{permitted-by, allowed-by}
+use Rattle.rules.proofs.LeastSums.{not-not, permitted-by, allowed-by}
 
 -- A search in which a value goes along: its steps go to the neighbours that pass a test, add a cost and leave the value; a starting cell has its own value.
 record CarriesAlong (net : Net Carried) (size : Size) (test : ℕ → Bool) (cost : ℕ → ℕ → Float → Float) (value : ℕ → Float) (cap : Float) : Type 0 where
@@ -159,8 +159,4 @@ closest-targets-by-time targets times values limit times-good held number =
     capped :
         (c : ℕ) → starts-by-time targets values c ≡ false → T (not (not (has-data values c)))
         → first c (has-data values c) (starts-by-time targets values c) ≡ (limit, plus-zero)
-    capped c rests valued = ap (λ b. first c b (starts-by-time targets values c)) (is-true (has-data values c) (twice (has-data values c) valued)) ∙ ap (first c true) rests
-      where
-        twice : (b : Bool) → T (not (not b)) → T b
-        twice true t = tt
-        twice false t = absurd t
+    capped c rests valued = ap (λ b. first c b (starts-by-time targets values c)) (is-true (has-data values c) (not-not (has-data values c) valued)) ∙ ap (first c true) rests

@@ -1,6 +1,6 @@
 -- Document 01's small grids, computed by the rules. Assumes nothing.
 use mathlib.Core.Bool.{true, false}
-use mathlib.Core.List.{List, [], _∷_}
+use mathlib.Core.List.{List, [], _∷_, map}
 use mathlib.Core.Path.{_≡_, refl}
 use Prim.Native.Nat.{ℕ, suc}
 use lib.IntN.{ℤ, pos, negsuc}
@@ -10,7 +10,7 @@ use Rattle.binary32.specs.Steps.{diagonal}
 use Rattle.binary32.specs.Numbers.{plus-zero, one}
 use Rattle.rules.specs.declared.BarrierDiagonals.the-variants.{Include, Exclude}
 use Rattle.rules.specs.Numbers.{infinity, whole}
-use Rattle.rules.specs.Sizes.{Size, Grid, Spacing, Lent, Refusal, number, number-at, Outcome, refused, accepted}
+use Rattle.rules.specs.Sizes.{Size, Grid, Spacing, in-bounds, Lent, Refusal, number, number-at, Outcome, refused, accepted}
 use Rattle.rules.specs.Computing.{rules-computing}
 use Rattle.rules.specs.Distances.{outcome-1, outcome-2, outcome-3}
 use Rattle.rules.specs.Values.{outcome-4, outcome-5, outcome-6}
@@ -93,9 +93,12 @@ small-grids = refl
 
 -- ---- what the fifteen don't notice
 
+abbrev pub rows-by-cols : ℤ → ℤ → Size
+rows-by-cols rows cols = record { rows = rows; cols = cols }
+
 -- Sizes that are lent with slices that fit none of them.
 abbrev pub sized : {A : Type 0} → ℤ → ℤ → List A → Grid A
-sized rows cols cells = record { size = record { rows = rows; cols = cols }; cells = cells }
+sized rows cols cells = record { size = rows-by-cols rows cols; cells = cells }
 
 -- A number so large that 1 more is lost.
 abbrev pub large : Float
@@ -186,15 +189,42 @@ more =
       outcome-7 (grid 2 2 (1 ∷ 0 ∷ 0 ∷ 0 ∷ [])) (grid 2 2 (whole 1 ∷ whole 1 ∷ whole 1 ∷ nan ∷ [])) (grid 2 2 (whole 1 ∷ whole 2 ∷ whole 4 ∷ whole 8 ∷ [])) (whole 9) true (lent 4 4),
       takes-and-answer 3 (whole 15 ∷ plus-zero ∷ plus-zero ∷ plus-zero ∷ []),
     ) ∷
-    -- K: a cell at budget + 1 is not entered, one above the budget is entered and gains nothing
+    -- K: a cell at the budget gains, one above it is entered and gains nothing, one at budget + 1 is not entered
+    (outcome-8 (row (whole 2 ∷ whole 4 ∷ [])) (row (whole 5 ∷ plus-zero ∷ [])) (whole 4) (lent 2 3), answer (whole 5 ∷ whole 5 ∷ [])) ∷
     (outcome-8 (row (whole 2 ∷ whole 4 ∷ [])) (row (whole 5 ∷ plus-zero ∷ [])) (half 7) (lent 2 3), takes-and-answer 2 (whole 5 ∷ plus-zero ∷ [])) ∷
     (outcome-8 (row (whole 2 ∷ whole 4 ∷ [])) (row (whole 5 ∷ plus-zero ∷ [])) (whole 3) (lent 2 3), takes-and-answer 1 (whole 5 ∷ plus-zero ∷ [])) ∷
     -- a huge budget crosses a nodata time
     (outcome-8 (row (whole 1 ∷ nan ∷ [])) (row (whole 5 ∷ plus-zero ∷ [])) (ofBits binary32 0x7f7f_ffff) (lent 2 3), takes-and-answer 2 (whole 5 ∷ whole 5 ∷ [])) ∷
     -- inf and -inf in reach add up to NaN, and no amount is counted twice
     (outcome-8 (row (whole 1 ∷ whole 1 ∷ [])) (row (infinity ∷ neg infinity ∷ [])) (whole 1) (lent 2 3), takes-and-answer 4 (nan ∷ nan ∷ [])) ∷
-    (outcome-8 (row (whole 1 ∷ whole 1 ∷ [])) (row (whole 5 ∷ whole 6 ∷ [])) (whole 9) (lent 2 3), takes-and-answer 4 (whole 11 ∷ whole 11 ∷ [])) ∷ []
+    (outcome-8 (row (whole 1 ∷ whole 1 ∷ [])) (row (whole 5 ∷ whole 6 ∷ [])) (whole 9) (lent 2 3), takes-and-answer 4 (whole 11 ∷ whole 11 ∷ [])) ∷
+    -- the amounts are added in row order: any other order loses another, or leaves the 1
+    (
+      outcome-8 (row (plus-zero ∷ plus-zero ∷ plus-zero ∷ [])) (row (large ∷ whole 1 ∷ neg large ∷ [])) (whole 1) (lent 3 3),
+      takes-and-answer 9 (plus-zero ∷ plus-zero ∷ plus-zero ∷ []),
+    ) ∷
+    -- with n = 0 the answer is empty
+    (outcome-1 (grid 0 3 []) (spacing infinity) (lent 0 1), takes-and-answer 0 []) ∷
+    (outcome-7 (row []) (row []) (row []) (whole 3) true (lent 0 4), takes-and-answer 0 []) ∷
+    (outcome-8 (grid 3 0 []) (grid 3 0 []) (whole 3) (lent 0 3), takes-and-answer 0 []) ∷
+    -- a cell with nodata time is NaN in 3, and no way leads through it
+    (outcome-3 (row (1 ∷ 0 ∷ 0 ∷ [])) (row (whole 2 ∷ nan ∷ whole 4 ∷ [])) infinity (lent 3 1), takes-and-answer 1 (plus-zero ∷ nan ∷ infinity ∷ [])) ∷
+    -- a target with nodata value passes NaN on in 4
+    (outcome-4 (row (1 ∷ 0 ∷ [])) (row (nan ∷ whole 9 ∷ [])) (lent 2 2), takes-and-answer 2 (nan ∷ nan ∷ [])) ∷
+    -- in 5 a target with nodata time starts, and a cell with nodata value is NaN
+    (outcome-5 (row (1 ∷ 0 ∷ 0 ∷ [])) (row (nan ∷ whole 4 ∷ whole 1 ∷ [])) (row (whole 7 ∷ whole 9 ∷ nan ∷ [])) (lent 3 2), takes-and-answer 2 (whole 7 ∷ whole 7 ∷ nan ∷ [])) ∷
+    -- a mask cell with nodata time is listed alone, nothing taken, and the cell beside it is adjacent
+    (outcome-7 (row (1 ∷ 0 ∷ [])) (row (nan ∷ whole 4 ∷ [])) (row (whole 7 ∷ whole 9 ∷ [])) (whole 3) false (lent 2 4), takes-and-answer 0 (whole 7 ∷ plus-zero ∷ [])) ∷
+    (outcome-7 (row (1 ∷ 0 ∷ [])) (row (nan ∷ whole 4 ∷ [])) (row (whole 7 ∷ whole 9 ∷ [])) (whole 3) true (lent 2 4), takes-and-answer 0 (whole 16 ∷ plus-zero ∷ [])) ∷ []
 
 pub more-grids : all-heard more ≡ all-said more
 unfolding more rules-computing
 more-grids = refl
+
+-- ---- the bounds
+
+-- 1024 by 1024 and 32,767 by 32 pass; 1025 by 1024, 32,768 by 1 and -1 by 1 don't.
+pub bounds :
+    map in-bounds (rows-by-cols (pos 1024) (pos 1024) ∷ rows-by-cols (pos 32767) (pos 32) ∷ rows-by-cols (pos 1025) (pos 1024) ∷ rows-by-cols (pos 32768) (pos 1) ∷ rows-by-cols (negsuc 0) (pos 1) ∷ [])
+    ≡ true ∷ true ∷ false ∷ false ∷ false ∷ []
+bounds = refl

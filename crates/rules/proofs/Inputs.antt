@@ -1,10 +1,8 @@
 -- What an accepted call knows of its inputs: their values are those of binary32, and the tests for refusals found nothing. Assumes nothing.
-use mathlib.Core.Bool.{Bool, true, false, _&&_, _||_}
-use mathlib.Core.List.{List, [], _∷_}
-use mathlib.Core.Path.{_≡_, refl, subst}
-use Prim.Native.Nat.{ℕ, zero, suc, _≤_}
+use mathlib.Core.Bool.{false, _&&_}
+use mathlib.Core.Path.{_≡_, refl}
+use Prim.Native.Nat.{ℕ, _≤_}
 use lib.Dec.{T, leb, leb→le}
-use lib.ListN.{getD}
 use lib.Ieee.{Float, nan, binary32, add, div, lt, le, eq, fits, isNan, ofBits, ofInt}
 use lib.Ieee.Bits.{is-false}
 use lib.Ieee.Fits.{and-r, div-fits}
@@ -20,6 +18,7 @@ use Rattle.rules.specs.Numbers.{infinity, whole, quarter-of-largest}
 use Rattle.rules.specs.Sizes.{Size, Grid, side-fits, in-bounds, any, below-zero, count}
 use Rattle.rules.specs.Distances.{float, has-data}
 use Rattle.rules.specs.Sums.{time-or-quarter}
+use Rattle.rules.proofs.Any.{neither, none-passes}
 
 -- ---- sizes
 
@@ -51,16 +50,6 @@ pub record AcceptedTimes (times : Grid Float) : Type 0 where
   pub held : (c : ℕ) → T (fits binary32 (float times c))
   pub none-negative : any below-zero (times .cells) ≡ false
 
-pub neither : (a b : Bool) → (a || b) ≡ false → (a ≡ false) × (b ≡ false)
-neither true b e = absurd (subst T e tt)
-neither false b e = (refl, e)
-
-none-passes : {A : Type 0} (test : A → Bool) (l : List A) (other : A) → test other ≡ false → any test l ≡ false → (c : ℕ) → test (getD l c other) ≡ false
-unfolding any
-none-passes test [] other fails none c = fails
-none-passes test (a ∷ l) other fails none zero = (neither (test a) (any test l) none) .0
-none-passes test (a ∷ l) other fails none (suc c) = none-passes test l other fails ((neither (test a) (any test l) none) .1) c
-
 nan-not-below : lt nan plus-zero ≡ false
 unfolding lt
 nan-not-below = refl
@@ -70,7 +59,7 @@ pub time-non-negative : {times : Grid Float} → AcceptedTimes times → (c : �
 time-non-negative {times} accepted c has = record {
   held = accepted .held c;
   not-nan = is-false (isNan (float times c)) has;
-  not-below = none-passes below-zero (times .cells) nan nan-not-below (accepted .none-negative) c;
+  not-below = none-passes below-zero nan nan-not-below (times .cells) (accepted .none-negative) c;
 }
 
 quarter-positive : T (positive quarter-of-largest)

@@ -1,6 +1,6 @@
 -- Demand 3: a search over distances holds the least sums over permitted paths. Assumes nothing.
 use mathlib.Core.Bool.{Bool, true, false, not, cond, _&&_}
-use mathlib.Core.Logic.{_⊎_, inl, inr, ⊎-elim}
+use mathlib.Core.Logic.{inl, inr, ⊎-elim}
 use mathlib.Core.Path.{_≡_, refl, sym, ap, _∙_, subst}
 use Prim.Native.Nat.{ℕ, _*_, _<_}
 use lib.Dec.{T}
@@ -27,7 +27,7 @@ use Rattle.rules.proofs.Inputs.{AcceptedTimes}
 use Rattle.rules.proofs.Nets.{plain-costs, obstacles-costs, travel-costs}
 use Rattle.rules.proofs.Squares.{laws-end}
 
-not-not : (b : Bool) → T (not (not b)) → T b
+pub not-not : (b : Bool) → T (not (not b)) → T b
 not-not true t = tt
 not-not false t = absurd t
 

@@ -2,10 +2,13 @@ pub mod Decided
 pub mod Grids
 pub mod Neighbours
 pub mod AddedCosts
+pub mod Any
 pub mod Inputs
 pub mod Nets
 pub mod Squares
+pub mod NoTargets
 pub mod LeastSums
 pub mod ClosestTargets
+pub mod Listed
 pub mod Totals
 pub mod Accepted

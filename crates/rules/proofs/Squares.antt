@@ -38,11 +38,15 @@ module _ {L : Type 0} (net : Net L) (none : (c : ℕ) → Starting net c → ⊥
   unfolding initial
   none-start-idle = ⊎-elim (λ e. e) (λ (u, ws, e). absurd (none u (passing-starts net u (rw e (inl refl))))) (empty-or-not (passing (net .start) 0 (net .cells)))
 
+  pub none-taken : takes-of net ≡ 0
+  unfolding takes-of
+  none-taken = takes-stopped net (net .cells * net .cells) (initial net) none-start-idle
+
   pub none-start-end : EndsWithinSquare net
-  unfolding finish takes-of
+  unfolding finish
   none-start-end = record {
     nothing-waits = rw (run-stopped net (net .cells * net .cells) (initial net) none-start-idle) none-start-idle;
-    takes-within-square = rw (takes-stopped net (net .cells * net .cells) (initial net) none-start-idle) zero-le;
+    takes-within-square = rw none-taken zero-le;
     room-within-cells = room-at-most-cells net;
   }
 

@@ -25,10 +25,14 @@ pub data Path (n : ℕ) (starts : ℕ → Bool) (Allowed : ℕ → ℕ → Float
   -- a path to u, and one step more from u to v, of length s
   onward : {u v : ℕ} {d s : Float} → Path n starts Allowed u d → Allowed u v s → Path n starts Allowed v (add binary32 d s)
 
--- Search 1 allows a step to any neighbour whose target has data.
+-- A step to any neighbour that passes the test, with what it adds.
+abbrev pub AllowedBy : Size → (ℕ → Bool) → (ℕ → ℕ → Float → Float) → ℕ → ℕ → Float → Type 0
+AllowedBy size test cost u v w =
+    T (test v) × ((In v (straight-neighbours size u) × (w ≡ cost u v straight)) ⊎ (In v (diagonal-neighbours size u) × (w ≡ cost u v diagonal)))
+
+-- Search 1 allows a step to any neighbour whose target has data, and adds its length.
 abbrev pub Allowed-1 : Grid ℕ → ℕ → ℕ → Float → Type 0
-Allowed-1 targets u v s =
-    T (target-data targets v) × ((In v (straight-neighbours (targets .size) u) × (s ≡ straight)) ⊎ (In v (diagonal-neighbours (targets .size) u) × (s ≡ diagonal)))
+Allowed-1 targets = AllowedBy (targets .size) (target-data targets) (λ u v s. s)
 
 -- Search 2 allows a step to a neighbour that is free, a diagonal one only if it is not blocked.
 abbrev pub Allowed-2 : Grid ℕ → Grid ℕ → BarrierDiagonals → ℕ → ℕ → Float → Type 0
@@ -36,11 +40,6 @@ Allowed-2 targets obstacles diagonals u v s =
     T (free obstacles v)
     × ((In v (straight-neighbours (targets .size) u) × (s ≡ straight))
     ⊎ (In v (diagonal-neighbours (targets .size) u) × T (not (blocked diagonals obstacles u v)) × (s ≡ diagonal)))
-
--- A step to any neighbour that passes the test, with what it adds.
-abbrev pub AllowedBy : Size → (ℕ → Bool) → (ℕ → ℕ → Float → Float) → ℕ → ℕ → Float → Type 0
-AllowedBy size test cost u v w =
-    T (test v) × ((In v (straight-neighbours size u) × (w ≡ cost u v straight)) ⊎ (In v (diagonal-neighbours size u) × (w ≡ cost u v diagonal)))
 
 -- Of the sums of a cell's paths, held is the least, or the cap where no such sum is below it.
 pub record LeastOrCap (Sum : Float → Type 0) (cap held : Float) : Type 0 where

@@ -79,14 +79,27 @@ unfoldable pub first-index : {A : Type 0} → (A → Bool) → List A → ℕ
 first-index test [] = 0
 first-index test (a ∷ rest) = cond (test a) 0 (suc (first-index test rest))
 
--- 1: an input grid's size breaks the bounds. 2: two input grids differ in rows or columns. 3: a lent slice has not its length: n, or n + 1 for the queue.
--- The first grid's size, those of the others, the lengths of the input slices, and what else is lent.
+-- 1: an input grid's size breaks the bounds.
+abbrev pub out-of-bounds : Size → Bool
+out-of-bounds size = not (in-bounds size)
+
+-- 2: two input grids differ in rows or columns.
+abbrev pub differs : Size → Size → Bool
+differs a b = not (same-size a b)
+
+-- 3: a lent slice has not its length: n, or n + 1 for the queue.
+abbrev pub other-than : ℕ → ℕ → Bool
+other-than n length = not (eqb length n)
+
+abbrev pub wrong-length : Size → List ℕ → Lent → Bool
+wrong-length size inputs lent = any (other-than (count size)) (inputs ++ lent .slices) || other-than (suc (count size)) (lent .queue)
+
+-- These three, then the search's own tests. The first grid's size, those of the others, the lengths of the input slices, and what else is lent.
 unfoldable pub shape : Size → List Size → List ℕ → Lent → List (Bool × Refusal) → List (Bool × Refusal)
 shape size others inputs lent more =
-    let n = count size in
-    (any (λ s. not (in-bounds s)) (size ∷ others), number 1) ∷
-    (any (λ s. not (same-size size s)) others, number 2) ∷
-    (any (λ l. not (eqb l n)) (inputs ++ lent .slices) || not (eqb (lent .queue) (suc n)), number 3) ∷ more
+    (any out-of-bounds (size ∷ others), number 1) ∷
+    (any (differs size) others, number 2) ∷
+    (wrong-length size inputs lent, number 3) ∷ more
 
 -- 4: the cell size is not finite or not above 0.
 abbrev pub bad-cell-size : Float → Bool × Refusal

@@ -1,25 +1,17 @@
 -- The search from one mask cell: the cells that it reached are those of the rules, and so is their sum. Assumes nothing.
-use mathlib.Core.Bool.{Bool, true, false, cond, _&&_}
-use mathlib.Core.List.{List, [], _∷_}
-use mathlib.Core.Logic.{⊎-elim}
+use mathlib.Core.Bool.{Bool, true, false, cond}
+use mathlib.Core.List.{List, []}
 use mathlib.Core.Path.{_≡_, refl, sym, ap, _∙_, subst}
-use Prim.Native.Nat.{ℕ, _*_, _<_}
-use native.Mathlib.Omega.{arith}
-use borrow.Author.Tests.{eq-eqb}
-use lib.Dec.{eqb}
+use Prim.Native.Nat.{ℕ, _*_}
 use lib.Ieee.{Float}
 use lib.ListN.{length, replicate, take}
 use Rattle.binary32.specs.Numbers.{plus-zero}
-use Rattle.fifo.specs.Machine.{among, joined, initial, finish}
-use Rattle.fifo.specs.Walk.{In}
-use Rattle.fifo.proofs.Lists.{tested, holds, in-among, in-passing, joined-waiting}
-use Rattle.fifo.proofs.Induction.{run-stopped}
-use Rattle.fifo.proofs.Entries.{entered-stays, entered-as-taken}
+use Rattle.fifo.specs.Machine.{joined, finish}
+use Rattle.fifo.proofs.Entries.{entered-as-taken}
 use Rattle.rules.specs.declared.Size.{Size}
 use Rattle.rules.specs.Sizes.{Grid, any, count}
-use Rattle.rules.specs.Distances.{has-data}
-use Rattle.rules.specs.Sums.{run-of, from-mask-cell, listed, sum-of, add-values, adjacent-cells}
-use Rattle.rules.proofs.Squares.{mask-cell-idle}
+use Rattle.rules.specs.Sums.{from-mask-cell, listed, sum-of, add-values, adjacent-cells}
+use Rattle.rules.proofs.Listed.{listed-with-start}
 use Rattle.calls.specs.Given.{grid}
 use Rattle.spread.specs.declared.search.Rule.the-variants.{FromMaskCell}
 use Rattle.spread.specs.declared.search.Search.{Search}
@@ -43,38 +35,6 @@ use Rattle.sums.specs.FromMask.{Reaching, run-from, ReachedFrom, SumReac
 use Rattle.sums.proofs.Endings.{EndsAs, spreads-by-times, ends-as}
 
 -- ---- the list
-
-module _ (times : Grid Float) (start : ℕ) (inside : start < count (times .size)) where
-  -- A mask cell whose time has data is entered from the start on.
-  start-entered : has-data times start ≡ true → In start (initial (from-mask-cell times start) .entered)
-  unfolding initial from-mask-cell
-  start-entered has =
-      in-passing (λ c. eqb c start && has-data times c) 0 (count (times .size)) start (omega arith) (omega arith)
-      (holds (ap (λ b. b && has-data times start) (eq-eqb start start refl) ∙ has))
-
-  -- From one whose time is nodata nothing is entered.
-  none-entered : has-data times start ≡ false → finish (from-mask-cell times start) .entered ≡ []
-  unfolding finish initial
-  none-entered none =
-      let net = from-mask-cell times start in
-      let idle = mask-cell-idle times start none in
-      ap (λ s. s .entered) (run-stopped net (net .cells * net .cells) (initial net) idle) ∙ idle
-
-  -- With the mask cell the list of the entered cells is the rules' list: the mask cell is among them already, or is listed alone.
-  listed-with-data : has-data times start ≡ true → joined start (finish (from-mask-cell times start) .entered) ≡ listed times (run-of (from-mask-cell times) start)
-  unfolding finish
-  listed-with-data has =
-      let net = from-mask-cell times start in
-      let entered = finish net .entered in
-      joined-waiting start entered (in-among start entered (entered-stays net start (net .cells * net .cells) (initial net) (start-entered has)))
-      ∙ ap (λ b. cond b entered (start ∷ [])) (sym has)
-
-  listed-alone : has-data times start ≡ false → joined start (finish (from-mask-cell times start) .entered) ≡ listed times (run-of (from-mask-cell times) start)
-  unfolding joined among
-  listed-alone none = ap (joined start) (none-entered none) ∙ ap (λ b. cond b (finish (from-mask-cell times start) .entered) (start ∷ [])) (sym none)
-
-  pub listed-with-start : joined start (finish (from-mask-cell times start) .entered) ≡ listed times (run-of (from-mask-cell times) start)
-  listed-with-start = ⊎-elim listed-with-data listed-alone (tested (has-data times start))
 
 -- The cells in order of first entry are the taken cells, each once.
 entered-is : (times : Grid Float) (start : ℕ) {taken : List (ℕ × Float)} {distances : List Float} {r : ℕ} → EndsAs (from-mask-cell times start) taken distances r

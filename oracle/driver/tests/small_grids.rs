@@ -95,3 +95,42 @@ fn k_to_m_amounts() {
     holds(&grids([0.0, 16_777_216.0], 16_777_216.0), &[5.0, 0.0], None);
     holds(&grids([NAN, 4.0], 9.0), &[0.0, 0.0], Some(0));
 }
+
+/// What the document's grids don't show, as crates/rules computes it in `more-grids`.
+#[test]
+fn nodata_on_the_way() {
+    holds(&Case { targets: row(&[1, 0, 0]), times: row(&[2.0, NAN, 4.0]), limit: INF, ..case(3) }, &[0.0, NAN, INF], Some(1));
+    holds(&Case { targets: row(&[1, 0]), values: row(&[NAN, 9.0]), ..case(4) }, &[NAN, NAN], Some(2));
+    let grids = Case { targets: row(&[1, 0, 0]), times: row(&[NAN, 4.0, 1.0]), values: row(&[7.0, 9.0, NAN]), ..case(5) };
+    holds(&grids, &[7.0, 7.0, NAN], Some(2));
+}
+
+#[test]
+fn a_mask_cell_with_nodata_time_is_listed_alone() {
+    let grids = |adjacent| Case {
+        targets: row(&[1, 0]),
+        times: row(&[NAN, 4.0]),
+        values: row(&[7.0, 9.0]),
+        adjacent,
+        limit: 3.0,
+        ..case(7)
+    };
+    holds(&grids(false), &[7.0, 0.0], Some(0));
+    holds(&grids(true), &[16.0, 0.0], Some(0));
+}
+
+#[test]
+fn amounts_are_added_in_row_order() {
+    let amounts = row(&[16_777_216.0, 1.0, -16_777_216.0]);
+    holds(&Case { times: row(&[0.0; 3]), values: amounts, limit: 1.0, ..case(8) }, &[0.0; 3], Some(9));
+}
+
+#[test]
+fn with_no_cells_the_answer_is_empty() {
+    let wide = Some(Grid { rows: 0, cols: 3, cells: vec![] });
+    holds(&Case { targets: wide, cell_size: 1.0, limit: INF, ..case(1) }, &[], Some(0));
+    let grids = Case { targets: row(&[]), times: row(&[]), values: row(&[]), adjacent: true, limit: 3.0, ..case(7) };
+    holds(&grids, &[], Some(0));
+    let tall = || Some(Grid { rows: 3, cols: 0, cells: vec![] });
+    holds(&Case { times: tall(), values: tall(), limit: 3.0, ..case(8) }, &[], Some(0));
+}

@@ -5,7 +5,7 @@ use native.Mathlib.Omega.{arith}
 use borrow.Author.Needs.{needs}
 use borrow.Author.Tests.{eq-eqb, ne-eqb}
 use lib.ListN.{length}
-use Rattle.calls.specs.Given.{other-than}
+use Rattle.rules.specs.Sizes.{other-than}
 use Rattle.calls.proofs.Scans.{NoneBelow, none-yet, none-more, none-all, one-passes}
 use Rattle.calls.proofs.shape.any_other.Statement.{statement}
 use Rattle.calls.proofs.shape.any_other.Tie as tie

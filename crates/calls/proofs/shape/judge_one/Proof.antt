@@ -3,7 +3,7 @@ use mathlib.Core.Bool.{true, false}
 use mathlib.Core.List.{[], _∷_}
 use borrow.Author.Needs.{needs}
 use Rattle.rules.specs.Sizes.{shape}
-use Rattle.calls.specs.Given.{out-of-bounds}
+use Rattle.rules.specs.Sizes.{out-of-bounds}
 use Rattle.calls.proofs.Scans.{Finds, finds-none, finds-first, finds-later}
 use Rattle.calls.proofs.Judgements.{first-holds, first-fails, none-holds, said, said-not, tested}
 use Rattle.calls.proofs.shape.judge_one.Statement.{statement}
