@@ -1,14 +1,12 @@
 -- Ordered tests: which refusal is given, and what is known where none is. Assumes nothing.
 use mathlib.Core.Path.{_≡_, refl, sym, ap, _∙_, subst}
-use mathlib.Core.Bool.{Bool, true, false, not, cond}
+use mathlib.Core.Bool.{Bool, true, false, cond}
 use mathlib.Core.List.{List, [], _∷_, _++_}
 use Prim.Native.Nat.{ℕ}
 use native.Mathlib.Omega.{arith}
-use borrow.Author.Tests.{not-false}
-use lib.Dec.{T}
 use lib.Ieee.{Float}
 use Rattle.rules.specs.declared.Size.{Size}
-use Rattle.rules.specs.Sizes.{Refusal, number-at, Judged, passes, stops, Lent, first-that-holds, any, first-index, shape, below-zero, negative-time}
+use Rattle.rules.specs.Sizes.{Refusal, number, number-at, Judged, passes, stops, Lent, first-that-holds, any, first-index, shape, below-zero, negative-time}
 use Rattle.calls.specs.Answer as code
 use Rattle.calls.specs.Answer.{judged-as, Passes, Stops}
 
@@ -80,7 +78,7 @@ module _ (size : Size) (others : List Size) (inputs : List ℕ) (lent : Lent) (m
     pub shape-passes : shaped ≡ Passes → Comes (shape size others inputs lent []) passes
     shape-passes is = record { is = sym (ap judged-as is) ∙ means }
 
--- ---- times
+-- ---- the limit and the times
 
 module _ (times : List Float) where
   pub no-time-is-negative : any below-zero times ≡ false → Comes (negative-time times ∷ []) passes
@@ -89,14 +87,8 @@ module _ (times : List Float) where
   pub first-negative-is : {i : ℕ} → any below-zero times ≡ true → first-index below-zero times ≡ i → Comes (negative-time times ∷ []) (stops (number-at 6 i))
   first-negative-is some is = subst (λ (k : ℕ). Comes (negative-time times ∷ []) (stops (number-at 6 k))) is (first-holds some)
 
--- ---- what a test's answer says of what it tests
-
-pub said : {answer test outcome : Bool} → answer ≡ test → answer ≡ outcome → test ≡ outcome
-said means e = sym means ∙ e
-
-pub said-not : {answer test outcome : Bool} → answer ≡ test → not answer ≡ outcome → not test ≡ outcome
-said-not means e = ap not (sym means) ∙ e
-
--- A negated test that failed: what it tests holds.
-pub tested : {answer test : Bool} → answer ≡ test → not answer ≡ false → T test
-tested {answer} {test} means e = subst T (sym (not-false answer e) ∙ means) tt
+  -- The limit, by what its test answered, then the times.
+  pub limit-then-times :
+      {answer test : Bool} {judged : Judged} → answer ≡ test → judged ≡ first-that-holds ((answer, number 5) ∷ negative-time times ∷ [])
+      → Comes ((test, number 5) ∷ negative-time times ∷ []) judged
+  limit-then-times means e = record { is = e ∙ ap (λ (bad : Bool). first-that-holds ((bad, number 5) ∷ negative-time times ∷ [])) means }

@@ -1,6 +1,6 @@
 -- The tests on a call's numbers. Assumes nothing.
-use mathlib.Core.Path.{_≡_, refl, sym}
-use mathlib.Core.Bool.{Bool, true, false, not, _&&_, _||_, false≢true}
+use mathlib.Core.Path.{_≡_, refl}
+use mathlib.Core.Bool.{Bool, true, false, not, _&&_, false≢true}
 use lib.Ieee.{Float, nan, inf, fin, ofBits, lt}
 use Rattle.binary32.specs.Numbers.{plus-zero}
 use Rattle.rules.specs.Numbers.{infinity, finite}
@@ -19,12 +19,3 @@ bad-where-infinite nan e = absurd (false≢true e)
 bad-where-infinite (inf true) e = absurd (false≢true e)
 bad-where-infinite (inf false) e = refl
 bad-where-infinite (fin s m d) e = rw e
-
--- A test that is made only where the one before it failed.
-pub or-first : (a b : Bool) → a ≡ true → a ≡ (a || b)
-or-first true b e = refl
-or-first false b e = absurd (false≢true e)
-
-pub or-second : (a b : Bool) → a ≡ false → b ≡ (a || b)
-or-second true b e = absurd (false≢true (sym e))
-or-second false b e = refl

@@ -10,8 +10,8 @@ use lib.Dec.{T, leb, eqb, leb→le}
 use lib.IntN.{ℤ, pos, negsuc}
 use Rattle.rules.specs.declared.Size.{Size}
 use Rattle.rules.specs.Sizes.{Refusal, passes, Lent, any, shape, in-bounds, same-number, same-size, count, differs, other-than}
-use Rattle.rules.proofs.Any.{neither}
-use Rattle.cells.proofs.Bounds.{passed as test-passed}
+use Rattle.fifo.proofs.Lists.{holds}
+use Rattle.rules.proofs.Tests.{neither}
 use Rattle.calls.proofs.Judgements.{Comes, passed}
 
 -- Each of a list is a.
@@ -40,7 +40,7 @@ same-number-is (negsuc a) (negsuc b) e = let both = and-yes (leb b a) (leb a b) 
 
 same-size-is : (a b : Size) → differs a b ≡ false → b ≡ a
 same-size-is a b e =
-    let both = and-yes (same-number (a .rows) (b .rows)) (same-number (a .cols) (b .cols)) (test-passed (not-false (same-size a b) e)) in
+    let both = and-yes (same-number (a .rows) (b .rows)) (same-number (a .cols) (b .cols)) (holds (not-false (same-size a b) e)) in
     sym (ap (λ (k : ℤ). record { rows = k; cols = a .cols }) (same-number-is (a .rows) (b .rows) (both .0)) ∙ ap (λ (k : ℤ). record { rows = b .rows; cols = k }) (same-number-is (a .cols) (b .cols) (both .1)))
 
 -- A call that passes the tests has its shape.
@@ -52,7 +52,7 @@ module _ (size : Size) (others : List Size) (inputs : List ℕ) (lent : Lent) (m
       let after-2 = passed (after-1 .1) in
       let lengths = neither _ _ (passed (after-2 .1) .0) in
       record {
-        within = test-passed (not-false (in-bounds size) (neither _ _ (after-1 .0) .0));
+        within = holds (not-false (in-bounds size) (neither _ _ (after-1 .0) .0));
         alike = all-are (differs size) (same-size-is size) others (after-2 .0);
         long = all-are (other-than (count size)) (λ l e. eqb-true l (count size) (not-false (eqb l (count size)) e)) (inputs ++ lent .slices) (lengths .0);
         queue-long = eqb-true (lent .queue) (suc (count size)) (not-false (eqb (lent .queue) (suc (count size))) (lengths .1));

@@ -7,7 +7,7 @@ use crate::limits::bad_cell_size;
 use crate::limits::nan_limit;
 use crate::shape::judge_one;
 use crate::shape::judge_two;
-use crate::times::first_negative;
+use crate::times::judge_limit_and_times;
 use rules::Size;
 use rules::Spacing;
 ghost use mathlib.Core.Path.{_≡_};
@@ -88,8 +88,5 @@ pub fn judge_3(
     let Judged::Passes = shape else {
         return shape;
     };
-    if nan_limit(cap) {
-        return Judged::Stops(Refusal::BadLimit);
-    }
-    first_negative(targets_size, times)
+    judge_limit_and_times(nan_limit(cap), targets_size, times)
 }

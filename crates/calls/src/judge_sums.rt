@@ -1,10 +1,9 @@
 // The refusals 1 to 6 of the searches for sums within reach.
 use crate::answer::Judged;
-use crate::answer::Refusal;
 use crate::limits::bad_budget;
 use crate::shape::judge_three;
 use crate::shape::judge_two;
-use crate::times::first_negative;
+use crate::times::judge_limit_and_times;
 use rules::Size;
 ghost use mathlib.Core.Path.{_≡_};
 ghost use Rattle.rules.specs.Sums.{refusals-7, refusals-8};
@@ -36,10 +35,7 @@ pub fn judge_7(
     let Judged::Passes = shape else {
         return shape;
     };
-    if bad_budget(budget) {
-        return Judged::Stops(Refusal::BadLimit);
-    }
-    first_negative(mask_size, times)
+    judge_limit_and_times(bad_budget(budget), mask_size, times)
 }
 
 // Search 8, `sum_targets_within_travel_distance`.
@@ -64,8 +60,5 @@ pub fn judge_8(
     let Judged::Passes = shape else {
         return shape;
     };
-    if bad_budget(budget) {
-        return Judged::Stops(Refusal::BadLimit);
-    }
-    first_negative(times_size, times)
+    judge_limit_and_times(bad_budget(budget), times_size, times)
 }

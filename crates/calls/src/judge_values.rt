@@ -1,10 +1,10 @@
 // The refusals 1 to 6 of the searches for values at the closest target.
 use crate::answer::Judged;
-use crate::answer::Refusal;
 use crate::limits::nan_limit;
 use crate::shape::judge_three;
 use crate::shape::judge_two;
 use crate::times::first_negative;
+use crate::times::judge_limit_and_times;
 use rules::Size;
 ghost use mathlib.Core.Path.{_≡_};
 ghost use Rattle.rules.specs.Values.{refusals-4, refusals-5, refusals-6};
@@ -83,8 +83,5 @@ pub fn judge_6(
     let Judged::Passes = shape else {
         return shape;
     };
-    if nan_limit(limit) {
-        return Judged::Stops(Refusal::BadLimit);
-    }
-    first_negative(targets_size, times)
+    judge_limit_and_times(nan_limit(limit), targets_size, times)
 }

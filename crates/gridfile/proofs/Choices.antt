@@ -1,11 +1,12 @@
 -- Tests and what they choose. Assumes nothing.
-use mathlib.Core.Path.{_≡_, refl, sym, subst, _∙_}
-use mathlib.Core.Bool.{Bool, true, false, not, cond, _&&_, _||_}
+use mathlib.Core.Path.{_≡_, refl, sym, subst}
+use mathlib.Core.Bool.{Bool, true, false, cond, _&&_, _||_}
 use mathlib.Core.List.{List, [], _∷_}
 use Prim.Native.Nat.{ℕ, _+_, _≤_, _<_}
 use native.Mathlib.Omega.{arith}
-use borrow.Author.Tests.{eqb-true, eqb-false, ne-eqb, not-true, not-false}
+use borrow.Author.Tests.{eqb-true, eqb-false, ne-eqb}
 use lib.Dec.{eqb}
+use Rattle.rules.proofs.Tests.{and-both}
 use Rattle.gridfile.specs.Request.{same, grids-of}
 
 -- What holds of both choices holds of the choice.
@@ -18,26 +19,11 @@ pub by-test : (P : Type 0) (test : Bool) → (test ≡ true → P) → (test ≡
 by-test P true holds fails = holds refl
 by-test P false holds fails = fails refl
 
--- What a call answers is what it stands for.
-pub said : {A : Type 0} {answer meant outcome : A} → answer ≡ meant → answer ≡ outcome → meant ≡ outcome
-said means e = sym means ∙ e
-
--- The same of a test that the code negates.
-pub held : {answer test : Bool} → answer ≡ test → not answer ≡ false → test ≡ true
-held {answer} {test} means e = sym means ∙ not-false answer e
-
-pub failed : {answer test : Bool} → answer ≡ test → not answer ≡ true → test ≡ false
-failed {answer} {test} means e = sym means ∙ not-true answer e
-
 -- Three choices in a row with the same way out are one.
 pub three-choices : {A : Type 0} (a b c : Bool) (x y : A) → cond a (cond b (cond c x y) y) y ≡ cond (a && b && c) x y
 three-choices true true c x y = refl
 three-choices true false c x y = refl
 three-choices false b c x y = refl
-
-pub and-both : (a b : Bool) → a && b ≡ true → (a ≡ true) × (b ≡ true)
-and-both true b e = (refl, e)
-and-both false b e = (e, cc)
 
 pub all-four : (a b c d : Bool) → a && b && c && d ≡ true → (a ≡ true) × (b ≡ true) × (c ≡ true) × (d ≡ true)
 all-four a b c d e =

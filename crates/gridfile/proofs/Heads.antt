@@ -10,7 +10,8 @@ use lib.ListN.{length}
 use Rattle.gridfile.specs.Fields.{part, Field, field, Fields, cut, whole, and-then, fields-from, tags, rising, is-field}
 use Rattle.gridfile.specs.Request.{Head, Grids, Parsed, Good, Bad, grids-of, same, by-tag, head-of, head-fits, grids-fit, as-request, judged, parsed}
 use Rattle.gridfile.specs.Lookups.{long, stands-at, has-head, Found, Exactly, Breach, grids-in}
-use Rattle.gridfile.proofs.Choices.{by-test, three-choices, and-both, same-is, table}
+use Rattle.rules.proofs.Tests.{and-both}
+use Rattle.gridfile.proofs.Choices.{by-test, three-choices, same-is, table}
 use Rattle.gridfile.proofs.Places.{look, looked-for}
 
 -- ---- the first three fields

@@ -10,7 +10,8 @@ use lib.ListN.{length, drop, length-drop}
 use Rattle.gridfile.specs.Fields.{Part, part, Field, field, Fields, cut, whole, and-then, fields-after, fields-from, content-of, tags}
 use Rattle.gridfile.specs.Request.{Grids, Request, Parsed, Good, Bad, grids-of, same, by-tag, small-bytes, small-floats, grids-fit, parsed}
 use Rattle.gridfile.specs.Lookups.{Exactly, Breach, grids-in}
-use Rattle.gridfile.proofs.Choices.{by-test, and-both, all-four, same-is, table}
+use Rattle.rules.proofs.Tests.{and-both}
+use Rattle.gridfile.proofs.Choices.{by-test, all-four, same-is, table}
 use Rattle.gridfile.proofs.Heads.{head-within}
 use Rattle.gridfile.proofs.Requests.{came}
 

@@ -13,7 +13,8 @@ use Rattle.rules.specs.Sizes.{count}
 use Rattle.gridfile.specs.Fields.{Part, part, Field, field, Fields, cut, whole, and-then, fields-after, fields-from, content-of, tags}
 use Rattle.gridfile.specs.Request.{Head, Grids, Request, Parsed, Good, Bad, grids-of, same, by-tag, head-of, flags-fit, numbers-fit, few-cells, head-fits, small-bytes, small-floats, grids-fit, as-request, parsed}
 use Rattle.gridfile.specs.Lookups.{has-head, Found, Exactly, Breach, grids-in}
-use Rattle.gridfile.proofs.Choices.{by-test, either, and-both, all-four}
+use Rattle.rules.proofs.Tests.{and-both}
+use Rattle.gridfile.proofs.Choices.{by-test, either, all-four}
 use Rattle.gridfile.proofs.Places.{cut-short}
 use Rattle.gridfile.proofs.Heads.{requested, as-judged, head-within}
 

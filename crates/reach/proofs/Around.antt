@@ -6,13 +6,12 @@ use lib.IntN.{ℤ, pos}
 use lib.Ieee.{Float}
 use lib.ListN.{length, getD, take}
 use Rattle.cells.specs.Storing.{Step, stay, on, back}
-use Rattle.cells.proofs.NeighbourLists.{neighbours-below, one-more-of}
-use Rattle.fifo.specs.Walk.{In}
-use Rattle.fifo.proofs.Lists.{in-front}
+use Rattle.cells.proofs.NeighbourLists.{one-more-of}
 use Rattle.rules.specs.declared.Size.{Size}
 use Rattle.rules.specs.Sizes.{count}
 use Rattle.rules.specs.Cells.{neighbour, neighbours}
 use Rattle.rules.specs.Sums.{adjacent-offsets}
+use Rattle.rules.proofs.Neighbours.{neighbour-inside}
 use Rattle.reach.specs.Listing.{Listing}
 use Rattle.reach.specs.Adjacent.{adjoin, adjoin-all, adjacent, Adding, Adjoins, Trying, Fitting, Beside, AddedAdjacent}
 use Rattle.reach.proofs.Reading.{take-more}
@@ -38,11 +37,6 @@ steps (suc (suc (suc (suc i)))) = (stay, stay)
 
 -- ---- the cells beside one cell
 
--- The neighbour at an offset is a cell of the grid.
-neighbour-below : (size : Size) (u : ℕ) (offset : List ℤ) (v : ℕ) → In v (neighbour size u offset) → v < count size
-unfolding neighbours
-neighbour-below size u offset v here = neighbours-below size u (offset ∷ []) v (in-front v (neighbour size u offset) [] here)
-
 -- What the slices have is not changed by a store.
 pub still-fitting : {size : Size} {values distances : List Float} {met met′ : List ℕ} → Fitting size values distances met → length met′ ≡ length met → Fitting size values distances met′
 still-fitting fits same =
@@ -55,7 +49,7 @@ pub trying-there :
 trying-there {size} u offset fits is = record {
   values-long = fits .values-long ∙ sym (fits .met-long);
   distances-long = fits .distances-long ∙ sym (fits .met-long);
-  inside = λ v here. rw (fits .met-long) (neighbour-below size u offset v (rw is at here));
+  inside = λ v here. rw (fits .met-long) (neighbour-inside size u offset v (rw is at here));
 }
 
 module _ {values distances : List Float} {budget : Float} {met₀ : List ℕ} {sum₀ : Float} where

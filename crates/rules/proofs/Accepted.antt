@@ -10,7 +10,7 @@ use Rattle.rules.specs.Sizes.{Size, Grid, Spacing, Lent, Refusal, Judged
 use Rattle.rules.specs.Distances.{refusals-1, refusals-2, refusals-3}
 use Rattle.rules.specs.Values.{refusals-5, refusals-6}
 use Rattle.rules.specs.Sums.{refusals-7, refusals-8}
-use Rattle.rules.proofs.Any.{neither}
+use Rattle.rules.proofs.Tests.{neither}
 
 abbrev Passed : Judged → Type 0
 Passed passes = Unit {0}

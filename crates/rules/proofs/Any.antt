@@ -1,18 +1,13 @@
 -- Whether one of a list passes a test, and which is the first that does. Assumes nothing.
 use mathlib.Core.Bool.{Bool, true, false, _||_, or-true}
 use mathlib.Core.List.{List, [], _∷_, _++_}
-use mathlib.Core.Path.{_≡_, refl, sym, ap, _∙_, subst}
+use mathlib.Core.Path.{_≡_, refl, sym, ap, _∙_}
 use Prim.Native.Nat.{ℕ, zero, suc, _+_, _≤_, _<_}
 use native.Mathlib.Nat.{not-suc-le-zero, le-of-suc-le-suc}
 use native.Mathlib.Numerals.{add-one}
-use lib.Dec.{T}
 use lib.ListN.{length, getD, take}
 use Rattle.rules.specs.Sizes.{any, first-index}
-
--- Where neither of two tests may hold, both fail.
-pub neither : (a b : Bool) → (a || b) ≡ false → (a ≡ false) × (b ≡ false)
-neither true b e = absurd (subst T e tt)
-neither false b e = (refl, e)
+use Rattle.rules.proofs.Tests.{neither}
 
 module _ {A : Type 0} (test : A → Bool) where
   pub any-none : any test [] ≡ false

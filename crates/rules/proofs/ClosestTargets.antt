@@ -20,12 +20,13 @@ use Rattle.rules.specs.Cells.{moves}
 use Rattle.rules.specs.Distances.{float, target, has-data}
 use Rattle.rules.specs.Values.{Carried, carrying, closest, starts-by-time, entered-by-time, closest-by-time}
 use Rattle.rules.specs.Paths.{Path, alone, onward, AllowedBy, FromClosest, HoldsClosest, ClosestTargets-4, ClosestTargets-by-time}
+use Rattle.rules.proofs.Tests.{not-not}
 use Rattle.rules.proofs.Neighbours.{moves-permitted, permitted-moves}
 use Rattle.rules.proofs.AddedCosts.{AddsCosts, laws-of-costs}
 use Rattle.rules.proofs.Inputs.{AcceptedTimes}
 use Rattle.rules.proofs.Nets.{closest-costs, closest-by-time-costs}
 use Rattle.rules.proofs.Squares.{laws-end}
-use Rattle.rules.proofs.LeastSums.{not-not, permitted-by, allowed-by}
+use Rattle.rules.proofs.LeastSums.{permitted-by, allowed-by}
 
 -- A search in which a value goes along: its steps go to the neighbours that pass a test, add a cost and leave the value; a starting cell has its own value.
 record CarriesAlong (net : Net Carried) (size : Size) (test : ℕ → Bool) (cost : ℕ → ℕ → Float → Float) (value : ℕ → Float) (cap : Float) : Type 0 where

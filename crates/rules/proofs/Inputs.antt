@@ -18,7 +18,8 @@ use Rattle.rules.specs.Numbers.{infinity, whole, quarter-of-largest}
 use Rattle.rules.specs.Sizes.{Size, Grid, side-fits, in-bounds, any, below-zero, count}
 use Rattle.rules.specs.Distances.{float, has-data}
 use Rattle.rules.specs.Sums.{time-or-quarter}
-use Rattle.rules.proofs.Any.{neither, none-passes}
+use Rattle.rules.proofs.Tests.{neither}
+use Rattle.rules.proofs.Any.{none-passes}
 
 -- ---- sizes
 

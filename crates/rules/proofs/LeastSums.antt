@@ -1,5 +1,5 @@
 -- Demand 3: a search over distances holds the least sums over permitted paths. Assumes nothing.
-use mathlib.Core.Bool.{Bool, true, false, not, cond, _&&_}
+use mathlib.Core.Bool.{Bool, false, not, cond, _&&_}
 use mathlib.Core.Logic.{inl, inr, ⊎-elim}
 use mathlib.Core.Path.{_≡_, refl, sym, ap, _∙_, subst}
 use Prim.Native.Nat.{ℕ, _*_, _<_}
@@ -21,15 +21,12 @@ use Rattle.rules.specs.Sizes.{Size, Grid, in-bounds}
 use Rattle.rules.specs.Cells.{moves}
 use Rattle.rules.specs.Distances.{target, target-data, from-targets, plain, free, blocked, with-obstacles, half-sum, both-data, travel}
 use Rattle.rules.specs.Paths.{Path, alone, onward, Allowed-2, AllowedBy, LeastOrCap, HoldsLeastSums, LeastSums-1, LeastSums-2, LeastSums-3}
+use Rattle.rules.proofs.Tests.{not-not}
 use Rattle.rules.proofs.Neighbours.{Permitted, straight-step, diagonal-step, moves-permitted, permitted-moves}
 use Rattle.rules.proofs.AddedCosts.{AddsCosts, laws-of-costs}
 use Rattle.rules.proofs.Inputs.{AcceptedTimes}
 use Rattle.rules.proofs.Nets.{plain-costs, obstacles-costs, travel-costs}
 use Rattle.rules.proofs.Squares.{laws-end}
-
-pub not-not : (b : Bool) → T (not (not b)) → T b
-not-not true t = tt
-not-not false t = absurd t
 
 -- ---- paths are walks
 

@@ -2,6 +2,7 @@ pub mod Decided
 pub mod Grids
 pub mod Neighbours
 pub mod AddedCosts
+pub mod Tests
 pub mod Any
 pub mod Inputs
 pub mod Nets

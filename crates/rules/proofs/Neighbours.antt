@@ -36,7 +36,7 @@ cell-below size row col t =
     let col-within = within-below (size .cols) col (and-r (within (size .rows) row) (within (size .cols) col) t) in
     index-below (mag row) (mag col) (mag (size .rows)) (mag (size .cols)) row-within col-within
 
-neighbour-inside : (size : Size) (u : ℕ) (offset : List ℤ) (v : ℕ) → In v (neighbour size u offset) → v < count size
+pub neighbour-inside : (size : Size) (u : ℕ) (offset : List ℤ) (v : ℕ) → In v (neighbour size u offset) → v < count size
 unfolding neighbour
 neighbour-inside size u offset v =
     let row = pos (row-of size u) +ℤ getD offset 0 (pos 0) in

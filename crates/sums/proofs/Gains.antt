@@ -1,5 +1,5 @@
 -- The cells that gain: one that was taken, and those of a whole run. Assumes nothing.
-use mathlib.Core.Bool.{Bool, true, false, not, cond, _&&_, false≢true}
+use mathlib.Core.Bool.{Bool, true, false, not, cond, _&&_}
 use mathlib.Core.List.{List, [], _∷_, _++_, foldl-append}
 use mathlib.Core.Logic.{⊎-elim}
 use mathlib.Core.Path.{_≡_, refl, sym, ap, _∙_, subst}
@@ -17,6 +17,7 @@ use Rattle.fifo.proofs.Induction.{getD-any}
 use Rattle.rules.specs.Sizes.{count}
 use Rattle.rules.specs.Sums.{gain}
 use Rattle.rules.specs.Values.{Carried}
+use Rattle.rules.proofs.Tests.{and-both}
 use Rattle.spread.specs.declared.search.Search.{Search}
 use Rattle.spread.specs.declared.take.Took.{Took}
 use Rattle.spread.specs.Steps.{Terrain}
@@ -25,20 +26,6 @@ use Rattle.spread.specs.Loop.{taken-at, TookCell, Ready}
 use Rattle.spread.proofs.Running.{Turn, no-turn, next-turn, ran}
 use Rattle.spread.proofs.Tracing.{none-taken, next-taken}
 use Rattle.sums.specs.Gain.{added-mark, gaining-one, gaining-of, Gained, Reached, GainedCell, Gaining, GainedAll}
-
--- ---- two tests, of which the second is made only where the first holds
-
-pub and-first : (a b : Bool) → a ≡ true → b ≡ (a && b)
-and-first true b e = refl
-and-first false b e = absurd (false≢true e)
-
-pub and-second : (a b : Bool) → a ≡ false → a ≡ (a && b)
-and-second true b e = absurd (false≢true (sym e))
-and-second false b e = refl
-
-both-hold : (a b : Bool) → (a && b) ≡ true → (a ≡ true) × (b ≡ true)
-both-hold true b e = (refl, e)
-both-hold false b e = absurd (false≢true e)
 
 -- ---- one cell
 
@@ -57,7 +44,7 @@ module _ {cell : ℕ} {distance budget amount : Float} {answer : List Float} {ad
     answer-length = length-set answer cell (add binary32 (getD answer cell nan) amount);
     added-length = length-set added cell added-mark;
     gained = λ start cells before.
-        let tests = both-hold (le distance budget) (not (eqb (getD added cell 0) added-mark)) e in
+        let tests = and-both (le distance budget) (not (eqb (getD added cell 0) added-mark)) e in
         let new : among cell cells ≡ false = sym (before .marked cell (reached .in-added)) ∙ not-true (eqb (getD added cell 0) added-mark) (tests .1) in
         let more : gaining-one budget cells (cell, distance) ≡ cells ++ cell ∷ [] = ap (λ within. cond within (joined cell cells) cells) (tests .0) ∙ joined-new cell cells new in
         subst (Gained amount start (set answer cell (add binary32 (getD answer cell nan) amount)) (set added cell added-mark)) (sym more) (record {

@@ -59,11 +59,11 @@ found-zeroes zero (Over cell) answer before = refl
 -- ---- before the search
 
 -- The answer is zeroed first.
-pub mask-search :
+pub mask-searching :
     {size : Size} {mask : List ℕ} {times values answer distances : List Float} {marks listed met queue : List ℕ}
     → Given size mask times values answer distances marks listed met queue → {answer₀ : List Float} → answer₀ ≡ replicate (length answer) plus-zero
     → SearchingMask size mask times values answer₀ distances marks listed met queue
-mask-search {answer = answer} given zeroed = record {
+mask-searching {answer = answer} given zeroed = record {
   given = record {
     ways = given .ways;
     mask-length = given .mask-length;

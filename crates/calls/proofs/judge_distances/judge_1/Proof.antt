@@ -1,7 +1,8 @@
 -- `judge_distances::judge_1` meets its contract. Assumes nothing.
 use borrow.Author.Needs.{needs}
 use Rattle.rules.specs.Distances.{refusals-1}
-use Rattle.calls.proofs.Judgements.{first-holds, first-fails, none-holds, stops-there, goes-on, said}
+use Rattle.rules.proofs.Tests.{said}
+use Rattle.calls.proofs.Judgements.{first-holds, first-fails, none-holds, stops-there, goes-on}
 use Rattle.calls.proofs.judge_distances.judge_1.Statement.{statement}
 use Rattle.calls.proofs.judge_distances.judge_1.Tie as tie
 

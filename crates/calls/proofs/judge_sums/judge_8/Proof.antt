@@ -2,7 +2,7 @@
 use mathlib.Core.List.{[]}
 use borrow.Author.Needs.{needs}
 use Rattle.rules.specs.Sums.{refusals-8}
-use Rattle.calls.proofs.Judgements.{first-holds, first-fails, stops-there, goes-on, shape-passes, said}
+use Rattle.calls.proofs.Judgements.{stops-there, goes-on, shape-passes, limit-then-times}
 use Rattle.calls.proofs.Shapes.{shaped}
 use Rattle.calls.proofs.judge_sums.judge_8.Statement.{statement}
 use Rattle.calls.proofs.judge_sums.judge_8.Tie as tie
@@ -26,28 +26,20 @@ returns c = stops-there _ _ _ _ _ _ (c .before .before .judge-two .ensures) (c .
 bad-budget-requires : tie.Need-bad-budget-requires
 bad-budget-requires c κs = search needs
 
+judge-limit-and-times-requires : tie.Need-judge-limit-and-times-requires
+judge-limit-and-times-requires c κs =
+    let passes = c .before in
+    let known = shaped _ _ _ _ _ (shape-passes _ _ _ _ [] _ (passes .before .before .judge-two .ensures) (passes .enum-told .given .1)) in
+    (known .within, known .long .0)
+
 returns-2 : tie.Need-returns-2
 unfolding refusals-8
 returns-2 c =
     let passes = c .before .before in
     goes-on _ _ _ _ _ _ (passes .before .before .judge-two .ensures) (passes .enum-told .given .1)
-    (first-holds (said (c .before .bad-budget .ensures) (c .if1 .taken))) .is
-
-first-negative-requires : tie.Need-first-negative-requires
-first-negative-requires c κs =
-    let passes = c .before .before in
-    let known = shaped _ _ _ _ _ (shape-passes _ _ _ _ [] _ (passes .before .before .judge-two .ensures) (passes .enum-told .given .1)) in
-    (known .within, known .long .0)
-
-returns-3 : tie.Need-returns-3
-unfolding refusals-8
-returns-3 c =
-    let limited = c .before in
-    let passes = limited .before .before in
-    goes-on _ _ _ _ _ _ (passes .before .before .judge-two .ensures) (passes .enum-told .given .1)
-    (first-fails (said (limited .before .bad-budget .ensures) (limited .if1 .left)) (record { is = c .first-negative .ensures })) .is
+    (limit-then-times _ (c .before .bad-budget .ensures) (c .judge-limit-and-times .ensures)) .is
 
 pub judge-8-spec : {M : Type 1} → statement M
 judge-8-spec =
     tie.close
-    (tie.spec slice-aggregate-judge-two judge-two-requires enum-told enum-told-2 returns bad-budget-requires returns-2 first-negative-requires returns-3)
+    (tie.spec slice-aggregate-judge-two judge-two-requires enum-told enum-told-2 returns bad-budget-requires judge-limit-and-times-requires returns-2)

@@ -2,7 +2,7 @@
 use mathlib.Core.List.{[]}
 use borrow.Author.Needs.{needs}
 use Rattle.rules.specs.Values.{refusals-6}
-use Rattle.calls.proofs.Judgements.{first-holds, first-fails, stops-there, goes-on, shape-passes, said}
+use Rattle.calls.proofs.Judgements.{stops-there, goes-on, shape-passes, limit-then-times}
 use Rattle.calls.proofs.Shapes.{shaped}
 use Rattle.calls.proofs.judge_values.judge_6.Statement.{statement}
 use Rattle.calls.proofs.judge_values.judge_6.Tie as tie
@@ -26,28 +26,20 @@ returns c = stops-there _ _ _ _ _ _ (c .before .before .judge-three .ensures) (c
 nan-limit-requires : tie.Need-nan-limit-requires
 nan-limit-requires c κs = search needs
 
+judge-limit-and-times-requires : tie.Need-judge-limit-and-times-requires
+judge-limit-and-times-requires c κs =
+    let passes = c .before in
+    let known = shaped _ _ _ _ _ (shape-passes _ _ _ _ [] _ (passes .before .before .judge-three .ensures) (passes .enum-told .given .1)) in
+    (known .within, known .long .1 .0)
+
 returns-2 : tie.Need-returns-2
 unfolding refusals-6
 returns-2 c =
     let passes = c .before .before in
     goes-on _ _ _ _ _ _ (passes .before .before .judge-three .ensures) (passes .enum-told .given .1)
-    (first-holds (said (c .before .nan-limit .ensures) (c .if1 .taken))) .is
-
-first-negative-requires : tie.Need-first-negative-requires
-first-negative-requires c κs =
-    let passes = c .before .before in
-    let known = shaped _ _ _ _ _ (shape-passes _ _ _ _ [] _ (passes .before .before .judge-three .ensures) (passes .enum-told .given .1)) in
-    (known .within, known .long .1 .0)
-
-returns-3 : tie.Need-returns-3
-unfolding refusals-6
-returns-3 c =
-    let limited = c .before in
-    let passes = limited .before .before in
-    goes-on _ _ _ _ _ _ (passes .before .before .judge-three .ensures) (passes .enum-told .given .1)
-    (first-fails (said (limited .before .nan-limit .ensures) (limited .if1 .left)) (record { is = c .first-negative .ensures })) .is
+    (limit-then-times _ (c .before .nan-limit .ensures) (c .judge-limit-and-times .ensures)) .is
 
 pub judge-6-spec : {M : Type 1} → statement M
 judge-6-spec =
     tie.close
-    (tie.spec slice-aggregate-judge-three judge-three-requires enum-told enum-told-2 returns nan-limit-requires returns-2 first-negative-requires returns-3)
+    (tie.spec slice-aggregate-judge-three judge-three-requires enum-told enum-told-2 returns nan-limit-requires judge-limit-and-times-requires returns-2)

@@ -5,7 +5,9 @@ use borrow.Author.Needs.{needs}
 use Rattle.rules.specs.Sizes.{shape}
 use Rattle.rules.specs.Sizes.{out-of-bounds}
 use Rattle.calls.proofs.Scans.{Finds, finds-none, finds-first, finds-later}
-use Rattle.calls.proofs.Judgements.{first-holds, first-fails, none-holds, said, said-not, tested}
+use Rattle.fifo.proofs.Lists.{holds}
+use Rattle.rules.proofs.Tests.{said, said-not, held}
+use Rattle.calls.proofs.Judgements.{first-holds, first-fails, none-holds}
 use Rattle.calls.proofs.shape.judge_one.Statement.{statement}
 use Rattle.calls.proofs.shape.judge_one.Tie as tie
 
@@ -21,7 +23,7 @@ unfolding shape
 returns c = let out : Finds out-of-bounds (c .before .before .before .before .args .size ∷ []) true = finds-first (said-not (c .before .in-bounds .ensures) (c .if1 .taken)) in first-holds (out .is) .is
 
 wrong-length-requires : tie.Need-wrong-length-requires
-wrong-length-requires c κs = tested (c .before .in-bounds .ensures) (c .if1 .left)
+wrong-length-requires c κs = holds (held (c .before .in-bounds .ensures) (c .if1 .left))
 
 returns-2 : tie.Need-returns-2
 unfolding shape

@@ -6,7 +6,9 @@ use borrow.Author.Needs.{needs}
 use Rattle.rules.specs.Sizes.{shape}
 use Rattle.rules.specs.Sizes.{out-of-bounds, differs}
 use Rattle.calls.proofs.Scans.{Finds, finds-none, finds-first, finds-later}
-use Rattle.calls.proofs.Judgements.{first-holds, first-fails, none-holds, said, said-not, tested}
+use Rattle.fifo.proofs.Lists.{holds}
+use Rattle.rules.proofs.Tests.{said, said-not, held}
+use Rattle.calls.proofs.Judgements.{first-holds, first-fails, none-holds}
 use Rattle.calls.proofs.shape.judge_two.Statement.{statement}
 use Rattle.calls.proofs.shape.judge_two.Tie as tie
 
@@ -45,7 +47,7 @@ unfolding shape
 returns-2 c = first-fails (within (c .before .before) .is) (first-holds (differ c .is)) .is
 
 wrong-length-requires : tie.Need-wrong-length-requires
-wrong-length-requires c κs = let first = c .before .before .before .before in tested (first .before .in-bounds .ensures) (first .if1 .left)
+wrong-length-requires c κs = let first = c .before .before .before .before in holds (held (first .before .in-bounds .ensures) (first .if1 .left))
 
 returns-3 : tie.Need-returns-3
 unfolding shape

@@ -3,7 +3,7 @@ use mathlib.Core.Logic.{⊎-elim}
 use native.Mathlib.Omega.{arith}
 use borrow.Author.Needs.{needs}
 use Rattle.cells.proofs.Bounds.{bounded}
-use Rattle.calls.proofs.Judgements.{said}
+use Rattle.rules.proofs.Tests.{said}
 use Rattle.calls.proofs.Lengths.{input-wrong, slice-wrong, queue-decides}
 use Rattle.calls.proofs.shape.wrong_length.Statement.{statement}
 use Rattle.calls.proofs.shape.wrong_length.Tie as tie

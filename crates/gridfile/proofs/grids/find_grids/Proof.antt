@@ -7,7 +7,7 @@ use borrow.Author.Needs.{needs}
 use Rattle.gridfile.specs.Fields.{Part}
 use Rattle.gridfile.specs.Request.{Grids}
 use Rattle.gridfile.specs.Lookups.{Found}
-use Rattle.gridfile.proofs.Choices.{said}
+use Rattle.rules.proofs.Tests.{said}
 use Rattle.gridfile.proofs.Steps.{Reached, steps, then-05, then-06, then-07, at-end, all-of, begin, on, breach, bytes-after, all-found}
 use Rattle.gridfile.proofs.grids.find_grids.Statement.{statement}
 use Rattle.gridfile.proofs.grids.find_grids.Tie as tie

@@ -1,6 +1,6 @@
 -- `grids::grids_fit` meets its contract. Assumes nothing.
 use Rattle.gridfile.specs.Request.{grids-fit}
-use Rattle.gridfile.proofs.Choices.{held, failed}
+use Rattle.rules.proofs.Tests.{held, failed}
 use borrow.Author.Needs.{needs}
 use Rattle.gridfile.proofs.grids.grids_fit.Statement.{statement}
 use Rattle.gridfile.proofs.grids.grids_fit.Tie as tie

@@ -3,7 +3,7 @@ use mathlib.Core.Path.{sym, ap, _∙_}
 use borrow.Author.Tests.{not-true, not-false}
 use Rattle.gridfile.specs.Lookups.{then-next}
 use Rattle.gridfile.proofs.Places.{content-within}
-use Rattle.gridfile.proofs.Choices.{said}
+use Rattle.rules.proofs.Tests.{said}
 use borrow.Author.Needs.{needs}
 use native.Mathlib.Omega.{arith}
 use Rattle.gridfile.proofs.grids.next_grid.Statement.{statement}

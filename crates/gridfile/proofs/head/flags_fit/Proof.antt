@@ -2,7 +2,7 @@
 use native.Mathlib.Omega.{arith}
 use borrow.Author.Needs.{needs}
 use borrow.Author.Tests.{le-leb, lt-leb}
-use Rattle.gridfile.proofs.Choices.{held, failed}
+use Rattle.rules.proofs.Tests.{held, failed}
 use Rattle.gridfile.proofs.head.flags_fit.Statement.{statement}
 use Rattle.gridfile.proofs.head.flags_fit.Tie as tie
 

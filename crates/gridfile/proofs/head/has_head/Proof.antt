@@ -1,6 +1,6 @@
 -- `head::has_head` meets its contract: each field that stands ends where the next is looked for. Assumes nothing.
 use Rattle.gridfile.proofs.Heads.{stands-within}
-use Rattle.gridfile.proofs.Choices.{held, failed}
+use Rattle.rules.proofs.Tests.{held, failed}
 use borrow.Author.Needs.{needs}
 use Rattle.gridfile.proofs.head.has_head.Statement.{statement}
 use Rattle.gridfile.proofs.head.has_head.Tie as tie

@@ -1,6 +1,6 @@
 -- `head::head_fits` meets its contract. Assumes nothing.
 use Rattle.gridfile.specs.Request.{head-fits}
-use Rattle.gridfile.proofs.Choices.{held, failed}
+use Rattle.rules.proofs.Tests.{held, failed}
 use borrow.Author.Needs.{needs}
 use Rattle.gridfile.proofs.head.head_fits.Statement.{statement}
 use Rattle.gridfile.proofs.head.head_fits.Tie as tie

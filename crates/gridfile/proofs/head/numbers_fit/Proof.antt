@@ -2,7 +2,7 @@
 use mathlib.Core.Path.{ap, _∙_}
 use mathlib.Core.Bool.{Bool}
 use Rattle.gridfile.specs.Request.{zero-unless}
-use Rattle.gridfile.proofs.Choices.{held, failed}
+use Rattle.rules.proofs.Tests.{held, failed}
 use borrow.Author.Needs.{needs}
 use Rattle.gridfile.proofs.head.numbers_fit.Statement.{statement}
 use Rattle.gridfile.proofs.head.numbers_fit.Tie as tie

@@ -2,7 +2,7 @@
 use mathlib.Core.Path.{sym, ap, _∙_}
 use borrow.Author.Needs.{needs}
 use Rattle.gridfile.specs.Request.{Good}
-use Rattle.gridfile.proofs.Choices.{said, held, failed}
+use Rattle.rules.proofs.Tests.{said, held, failed}
 use Rattle.gridfile.proofs.Heads.{Headed, Found-all, head-within, no-head, no-grids, unfit-head, unfit-grids, good}
 use Rattle.gridfile.proofs.request.parse.Statement.{statement}
 use Rattle.gridfile.proofs.request.parse.Tie as tie

@@ -1,6 +1,6 @@
 -- `within::sum_mask` meets its contract. Assumes nothing.
 use mathlib.Core.Path.{sym, _∙_}
-use Rattle.sums.proofs.WithinSums.{mask-search, mask-promised}
+use Rattle.sums.proofs.WithinSums.{mask-searching, mask-promised}
 use borrow.Author.Needs.{needs}
 use Rattle.sums.proofs.within.sum_mask.Statement.{statement}
 use Rattle.sums.proofs.within.sum_mask.Tie as tie
@@ -9,7 +9,7 @@ zero-floats-requires : tie.Need-zero-floats-requires
 zero-floats-requires c κs = search needs
 
 search-mask-requires : tie.Need-search-mask-requires
-search-mask-requires c κs = mask-search (c .before .before .before .before .before .before .before .before .before .before .before .before .before .before .before .before .before .before .before .pre) (c .before .before .before .before .before .before .before .before .zero-floats .ensures)
+search-mask-requires c κs = mask-searching (c .before .before .before .before .before .before .before .before .before .before .before .before .before .before .before .before .before .before .before .pre) (c .before .before .before .before .before .before .before .before .zero-floats .ensures)
 
 zero-floats-requires-2 : tie.Need-zero-floats-requires-2
 zero-floats-requires-2 c κs = search needs
