@@ -9,6 +9,7 @@
 mod refusals;
 
 pub use refusals::refusal;
+pub use unchanged::searches::Rasters;
 
 use std::panic::{AssertUnwindSafe, catch_unwind, resume_unwind};
 use std::sync::Once;
@@ -50,6 +51,11 @@ pub enum Reading {
     Document,
     /// Nothing for `cell_is_nodata`, any NaN for `is_nodata` and `value`, as the repository's code says.
     Repository,
+}
+
+/// An answer of the text, whose type differs from search to search.
+pub trait Cells {
+    fn cells(&self) -> &[f32];
 }
 
 /// What search 7's `assert!` panics with.

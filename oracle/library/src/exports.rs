@@ -89,7 +89,8 @@ pub fn answer_in(case: &Case, lent: &mut Lent) -> Answer {
     }
 }
 
-fn call(case: &Case, lent: &mut Lent, takes: &mut u64, index: &mut u32) -> u32 {
+/// The case's export as it is: gives the status, 0 or the refusal's number.
+pub fn call(case: &Case, lent: &mut Lent, takes: &mut u64, index: &mut u32) -> u32 {
     let (targets, obstacles) = (|| view(&case.targets), || view(&case.obstacles));
     let (times, values) = (|| view(&case.times), || view(&case.values));
     let limit = case.limit;

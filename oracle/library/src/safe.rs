@@ -17,7 +17,8 @@ pub fn answer(case: &Case) -> Answer {
     }
 }
 
-fn sheet(case: &Case) -> Result<Sheet, Refusal> {
+/// The case's safe function as it is.
+pub fn sheet(case: &Case) -> Result<Sheet, Refusal> {
     let (targets, obstacles) = (|| view(&case.targets), || view(&case.obstacles));
     let (times, values) = (|| view(&case.times), || view(&case.values));
     let limit = case.limit;

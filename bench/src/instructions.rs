@@ -1,0 +1,92 @@
+//! Instructions of both sides on one grid, counted by callgrind.
+//!
+//! This program starts itself under valgrind for one call of one side. Callgrind collects from the entry of that call's
+//! function to its return, so that making the grid and reading the answer are not counted.
+use std::path::Path;
+use std::process::Command;
+use std::{env, fs, process};
+
+use library::exports::Lent;
+use oracle::Rasters;
+
+use crate::plans::Plan;
+use crate::sides::{Outcome, expected, hash_of, lent_call, rust_call};
+
+#[derive(Debug)]
+pub struct Counted {
+    pub plan: Plan,
+    pub takes: u64,
+    pub rust: u64,
+    pub lent: u64,
+}
+
+#[derive(Clone, Copy, Debug)]
+pub enum Side {
+    Rust,
+    Lent,
+}
+
+impl Side {
+    pub const ALL: [Side; 2] = [Side::Rust, Side::Lent];
+
+    /// The word for it, which is the front of its function's name too.
+    pub fn word(self) -> &'static str {
+        match self {
+            Side::Rust => "rust",
+            Side::Lent => "lent",
+        }
+    }
+}
+
+/// Both sides on a grid. An answer that differs is an error.
+pub fn count(plan: &Plan) -> Result<Counted, String> {
+    let expected = expected(&plan.case());
+    let [rust, lent] = Side::ALL.map(|side| under_callgrind(plan, side));
+    let ((rust, rust_hash), (lent, outcome)) = (rust?, lent?);
+    if outcome != expected || rust_hash.hash != expected.hash {
+        return Err(format!("ours gives {outcome:x?}, the Rust {rust_hash:x?}, the counting build {expected:x?}"));
+    }
+    Ok(Counted { plan: plan.clone(), takes: expected.takes, rust, lent })
+}
+
+/// What the started program does: one call, whose outcome it prints. The Rust does not know its takes.
+pub fn one_call(plan: &Plan, side: Side) {
+    let case = plan.case();
+    let outcome = match side {
+        Side::Rust => Outcome { takes: 0, hash: hash_of(rust_call(&Rasters::of(&case)).cells()) },
+        Side::Lent => {
+            let mut lent = Lent::new(case.search, plan.cells());
+            Outcome { takes: lent_call(&case, &mut lent), hash: hash_of(&lent.answer) }
+        }
+    };
+    println!("{} {}", outcome.takes, outcome.hash);
+}
+
+fn under_callgrind(plan: &Plan, side: Side) -> Result<(u64, Outcome), String> {
+    let profile = env::temp_dir().join(format!("bench-{}.callgrind", process::id()));
+    let this = env::current_exe().map_err(|error| error.to_string())?;
+    let output = Command::new("valgrind")
+        .args(["--tool=callgrind", "--quiet"])
+        .arg(format!("--toggle-collect=*sides::{}_call*", side.word()))
+        .arg(format!("--callgrind-out-file={}", profile.display()))
+        .arg(this)
+        .args(["call", side.word(), &plan.name()])
+        .output()
+        .map_err(|error| format!("valgrind: {error}"))?;
+    if !output.status.success() {
+        return Err(String::from_utf8_lossy(&output.stderr).into_owned());
+    }
+    let instructions = collected(&profile)?;
+    fs::remove_file(&profile).map_err(|error| error.to_string())?;
+    let words = String::from_utf8_lossy(&output.stdout).into_owned();
+    let numbers: Vec<u64> = words.split_whitespace().filter_map(|word| word.parse().ok()).collect();
+    let [takes, hash] = numbers[..] else { return Err(format!("no outcome but {words:?}")) };
+    Ok((instructions, Outcome { takes, hash }))
+}
+
+/// The total of a callgrind profile, which is not 0: else the call's function was not found.
+fn collected(profile: &Path) -> Result<u64, String> {
+    let text = fs::read_to_string(profile).map_err(|error| format!("{}: {error}", profile.display()))?;
+    let total = text.lines().find_map(|line| line.strip_prefix("totals: ")).and_then(|total| total.trim().parse().ok());
+    total.filter(|&instructions| instructions > 0).ok_or_else(|| "callgrind collected nothing".into())
+}

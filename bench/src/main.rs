@@ -1,0 +1,90 @@
+//! The port's searches beside the Rust of docs/src, on the same seeded grids: times, or instructions for a take.
+//! `bench/run` builds and starts this.
+
+mod instructions;
+mod plans;
+mod report;
+mod sides;
+mod times;
+
+use std::env;
+use std::process::ExitCode;
+
+use instructions::Side;
+use plans::{COUNTED, FULL, Plan, SMALL, Scale};
+use report::Ratio;
+
+const USAGE: &str = "bench [--instructions | --small] [--only WORDS]";
+
+/// What was asked for.
+struct Asked {
+    instructions: bool,
+    scale: Scale,
+    only: String,
+}
+
+fn main() -> ExitCode {
+    let words: Vec<String> = env::args().skip(1).collect();
+    let done = match words.iter().map(String::as_str).collect::<Vec<_>>()[..] {
+        ["call", side, name] => call(side, name),
+        _ => asked(&words).and_then(|asked| compare(&asked)),
+    };
+    match done {
+        Ok(()) => ExitCode::SUCCESS,
+        Err(why) => {
+            eprintln!("bench: {why}");
+            ExitCode::FAILURE
+        }
+    }
+}
+
+fn asked(words: &[String]) -> Result<Asked, String> {
+    let mut asked = Asked { instructions: false, scale: FULL, only: String::new() };
+    let mut words = words.iter();
+    while let Some(word) = words.next() {
+        match word.as_str() {
+            "--instructions" => (asked.instructions, asked.scale) = (true, COUNTED),
+            "--small" => asked.scale = SMALL,
+            "--only" => asked.only = words.next().ok_or(USAGE)?.clone(),
+            _ => return Err(USAGE.into()),
+        }
+    }
+    Ok(asked)
+}
+
+/// Measures each grid in turn, and prints the tables once all agreed.
+fn compare(asked: &Asked) -> Result<(), String> {
+    let plans: Vec<Plan> =
+        plans::plans(&asked.scale).into_iter().filter(|plan| plan.name().contains(&asked.only)).collect();
+    if plans.is_empty() {
+        return Err(format!("no grid's name has {:?}", asked.only));
+    }
+    if asked.instructions {
+        let counted = each(&plans, instructions::count)?;
+        report::heading();
+        report::instructions(&counted);
+    } else {
+        let timed = each(&plans, |plan| times::time(plan, asked.scale.time))?;
+        report::heading();
+        report::times(&timed);
+    }
+    Ok(())
+}
+
+/// Measures each grid in turn, and tells on standard error how far it is.
+fn each<T: Ratio>(plans: &[Plan], measure: impl Fn(&Plan) -> Result<T, String>) -> Result<Vec<T>, String> {
+    let told = |plan: &Plan| {
+        let measured = measure(plan).map_err(|why| format!("{}: {why}", plan.name()))?;
+        eprintln!("{}: {:.2} of the Rust's", plan.name(), measured.ratio());
+        Ok(measured)
+    };
+    plans.iter().map(told).collect()
+}
+
+/// One call of one side, for callgrind to count.
+fn call(side: &str, name: &str) -> Result<(), String> {
+    let side = Side::ALL.into_iter().find(|known| known.word() == side).ok_or(USAGE)?;
+    let plan = plans::plans(&COUNTED).into_iter().find(|plan| plan.name() == name).ok_or("no such grid")?;
+    instructions::one_call(&plan, side);
+    Ok(())
+}
