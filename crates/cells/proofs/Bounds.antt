@@ -62,6 +62,10 @@ bounded size inside =
       cells-most = leb→le (count size) cells-max (all .1);
     }
 
+pub sides-fit : (size : Size) → T (in-bounds size) → T (side-fits (size .rows)) × T (side-fits (size .cols))
+sides-fit size inside =
+    and-yes (side-fits (size .rows)) (side-fits (size .cols)) (and-yes (side-fits (size .rows) && side-fits (size .cols)) (leb (count size) cells-max) inside .0)
+
 -- ---- the tests of the code
 
 -- A signed number as the machine reads it back from its bits.

@@ -4,5 +4,6 @@ pub mod Edges
 pub mod Storing
 pub mod NeighbourLists
 pub mod NeighbourArray
+pub mod Interior
 pub mod RingContents
 pub mod Decided

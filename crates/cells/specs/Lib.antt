@@ -1,3 +1,4 @@
 pub mod Neighbours
+pub mod Interior
 pub mod Storing
 pub mod Ring

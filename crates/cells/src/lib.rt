@@ -12,6 +12,7 @@ mod sizes;
 pub use neighbours::Neighbour;
 pub use neighbours::Neighbours;
 pub use neighbours::OFFSETS;
+pub use neighbours::near;
 pub use neighbours::neighbour_at;
 pub use neighbours::neighbours_of;
 pub use ring::Ring;

@@ -5,6 +5,7 @@ ghost use lib.Signed.{mag};
 ghost use Rattle.rules.specs.Cells as Cells;
 ghost use Rattle.cells.specs.Neighbours.{CellOf, Lists};
 ghost use Rattle.cells.specs.Storing.{InGrid, Stepping, Leads, Storing, Stored};
+ghost use Rattle.cells.specs.Interior.{Interior, Between, SaysInner, SaysInterior};
 
 // The offsets of the neighbours, row and column each, in the order in which they are tried.
 pub const OFFSETS: [[i32; 2]; 8] = [
@@ -118,4 +119,59 @@ pub fn neighbours_of(size: Size, cell: u32) -> Neighbours
         straight,
         count,
     }
+}
+
+// Whether k, one of the rows, or columns, before `end`, is neither the first nor the last.
+fn is_inner(end: i32, k: i32) -> bool
+    requires { ⌜ Between end k ⌝ }
+    ensures { λ r. ⌜ SaysInner end k r ⌝ }
+{
+    0 < k && k + 1 < end
+}
+
+// Whether a cell is at no edge.
+fn is_interior(size: Size, cell: u32) -> bool
+    requires { ⌜ CellOf size cell ⌝ }
+    ensures { λ r. ⌜ SaysInterior size cell r ⌝ }
+{
+    let cols = size.cols as u32;
+    let row = (cell / cols) as i32;
+    let col = (cell % cols) as i32;
+    is_inner(size.rows, row) && is_inner(size.cols, col)
+}
+
+// The neighbours of a cell at no edge: all eight are there, so that no more is tested.
+fn interior_neighbours(size: Size, cell: u32) -> Neighbours
+    requires { ⌜ Interior size cell ⌝ }
+    ensures { λ r. ⌜ Lists size cell r ⌝ }
+{
+    let cols = size.cols as u32;
+    let below = cell + cols;
+    let above = cell - cols;
+    Neighbours {
+        cells: [
+            cell + 1,
+            cell - 1,
+            below,
+            above,
+            below + 1,
+            above + 1,
+            below - 1,
+            above - 1,
+        ],
+        sideways: 2,
+        straight: 4,
+        count: 8,
+    }
+}
+
+// The neighbours of a cell, the same list as `neighbours_of` gives, found faster where the cell is at no edge.
+pub fn near(size: Size, cell: u32) -> Neighbours
+    requires { ⌜ CellOf size cell ⌝ }
+    ensures { λ r. ⌜ Lists size cell r ⌝ }
+{
+    if is_interior(size, cell) {
+        return interior_neighbours(size, cell);
+    }
+    neighbours_of(size, cell)
 }
