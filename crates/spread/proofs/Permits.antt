@@ -1,5 +1,5 @@
 -- The steps that a rule permits, as the code tests them. Assumes nothing.
-use mathlib.Core.Bool.{Bool, true, false, not, _&&_, _||_}
+use mathlib.Core.Bool.{Bool, true, false, not, cond, _&&_, _||_}
 use mathlib.Core.List.{List}
 use mathlib.Core.Logic.{⊎-elim}
 use mathlib.Core.Path.{_≡_, refl, sym, ap, _∙_}
@@ -9,21 +9,23 @@ use native.Mathlib.Omega.{arith}
 use borrow.Author.Tests.{ne-eqb}
 use lib.Dec.{T, eqb}
 use lib.IntN.{natAbs}
+use lib.Ieee.{Float}
 use lib.ListN.{length, getD}
 use lib.Signed.{mag, nonNeg}
 use mir.Syntax.{w32}
 use mir.Val.{Fits}
 use Rattle.cells.proofs.Bounds.{Bounded, bounded, read, side-read, cast-is}
 use Rattle.fifo.proofs.Lists.{same-or-not}
-use Rattle.rules.specs.declared.BarrierDiagonals.{BarrierDiagonals}
-use Rattle.rules.specs.declared.BarrierDiagonals.the-variants.{Exclude}
+use Rattle.rules.specs.declared.BarrierDiagonals.the-variants.{Include, Exclude}
 use Rattle.rules.specs.declared.Size.{Size}
-use Rattle.rules.specs.Sizes.{count}
+use Rattle.rules.specs.Sizes.{Grid, count}
 use Rattle.rules.specs.Cells.{index, row-of, col-of}
-use Rattle.rules.specs.Distances.{obstacle, blocked}
+use Rattle.rules.specs.Distances.{obstacle, free, blocked}
 use Rattle.spread.specs.declared.search.Rule.{Rule}
-use Rattle.spread.specs.declared.search.Rule.the-variants.{Obstacles}
-use Rattle.spread.specs.Steps.{on, avoids, may-straight, may-diagonal, SaysFree, Pair, Crossed, Among, MayAsk}
+use Rattle.spread.specs.declared.search.Rule.the-variants.{Plain, Obstacles, HalfSum, Closest, ByTime, FromMaskCell, FromAmount}
+use Rattle.spread.specs.Nets.{reads-times}
+use Rattle.spread.specs.Steps.{formula, on, avoids, may-straight, may-diagonal, formula-number, avoided-number, formula-by, may-enter, blocked-by, may-step}
+use Rattle.spread.specs.Steps.{SaysFree, Pair, Crossed, Among, MayAsk}
 
 -- ---- obstacles
 
@@ -97,23 +99,87 @@ module _ {size : Size} {obstacles : List ℕ} {u v one : ℕ} (beside : Crossed 
       sym (ap (λ b. b && obstacle (on size obstacles) (index size (row-of size v) (col-of size u))) (first-is ∙ ap not closed)
       ∙ ap (obstacle (on size obstacles)) (sym (beside′ .at-index)) ∙ obstacle-is free-says′ size)
 
--- ---- the rules
+-- ---- the rules by their numbers
 
-module _ {rule : Rule} {diagonals : BarrierDiagonals} (is-rule : rule ≡ Obstacles diagonals) where
-  pub among-obstacles : {size : Size} {obstacles : List ℕ} {u v : ℕ} → MayAsk rule size obstacles u v → Among size obstacles u v
-  among-obstacles asks = record { pair = asks .pair; lent = asks .lent (ap avoids is-rule) }
+permit : (may blocks : Bool) → (may && not blocks) ≡ cond blocks false may
+permit true true = refl
+permit true false = refl
+permit false true = refl
+permit false false = refl
 
-  pub obstacle-inside : {size : Size} {obstacles : List ℕ} {u v : ℕ} → MayAsk rule size obstacles u v → v < length obstacles
-  obstacle-inside asks = rw (asks .lent (ap avoids is-rule)) (asks .pair .second)
+-- What may be entered straight, and diagonally.
+straight-by : (rule : Rule) (obstacles : Grid ℕ) (u v : ℕ) → may-straight rule obstacles v ≡ may-step (avoided-number rule) false obstacles u v
+straight-by Plain obstacles u v = refl
+straight-by (Obstacles Include) obstacles u v = refl
+straight-by (Obstacles Exclude) obstacles u v = refl
+straight-by HalfSum obstacles u v = refl
+straight-by Closest obstacles u v = refl
+straight-by ByTime obstacles u v = refl
+straight-by (FromMaskCell origin) obstacles u v = refl
+straight-by (FromAmount origin) obstacles u v = refl
 
-  module _ {obstacles : List ℕ} {v : ℕ} {answer : Bool} (free-says : SaysFree obstacles v answer) (size : Size) where
-    pub free-decides : answer ≡ may-straight rule (on size obstacles) v
-    free-decides = rw is-rule (free-says .says size)
+diagonal-by : (rule : Rule) (obstacles : Grid ℕ) (u v : ℕ) → may-diagonal rule obstacles u v ≡ may-step (avoided-number rule) true obstacles u v
+diagonal-by Plain obstacles u v = refl
+diagonal-by (Obstacles Include) obstacles u v = permit (free obstacles v) false
+diagonal-by (Obstacles Exclude) obstacles u v = permit (free obstacles v) (blocked Exclude obstacles u v)
+diagonal-by HalfSum obstacles u v = refl
+diagonal-by Closest obstacles u v = refl
+diagonal-by ByTime obstacles u v = refl
+diagonal-by (FromMaskCell origin) obstacles u v = refl
+diagonal-by (FromAmount origin) obstacles u v = refl
 
-    pub closed-refused : (u : ℕ) → answer ≡ false → answer ≡ may-diagonal rule (on size obstacles) u v
-    closed-refused u closed = rw (is-rule, ← free-says .says size, closed)
+pub permitted-by :
+    (rule : Rule) (diagonally : Bool) (obstacles : Grid ℕ) (u v : ℕ)
+    → cond diagonally (may-diagonal rule obstacles u v) (may-straight rule obstacles v) ≡ may-step (avoided-number rule) diagonally obstacles u v
+permitted-by rule true = diagonal-by rule
+permitted-by rule false = straight-by rule
 
-    pub blocked-decides :
-        (u : ℕ) {answer′ : Bool} → answer ≡ true → answer′ ≡ blocked diagonals (on size obstacles) u v
-        → not answer′ ≡ may-diagonal rule (on size obstacles) u v
-    blocked-decides u is-free says-blocked = rw (is-rule, ← free-says .says size, is-free) (ap not says-blocked)
+-- How it adds.
+pub formed-by : (rule : Rule) (times : Grid Float) (u : ℕ) (s : Float) (v : ℕ) (d : Float) → formula-by (formula-number rule) times u s v d ≡ formula rule times u s v d
+formed-by Plain times u s v d = refl
+formed-by (Obstacles diagonals) times u s v d = refl
+formed-by HalfSum times u s v d = refl
+formed-by Closest times u s v d = refl
+formed-by ByTime times u s v d = refl
+formed-by (FromMaskCell origin) times u s v d = refl
+formed-by (FromAmount origin) times u s v d = refl
+
+-- Where it reads a grid.
+pub avoids-by : (rule : Rule) → eqb (avoided-number rule) 0 ≡ false → avoids rule ≡ true
+avoids-by Plain e = sym e
+avoids-by (Obstacles diagonals) e = refl
+avoids-by HalfSum e = sym e
+avoids-by Closest e = sym e
+avoids-by ByTime e = sym e
+avoids-by (FromMaskCell origin) e = sym e
+avoids-by (FromAmount origin) e = sym e
+
+pub reads-by : (rule : Rule) → eqb (formula-number rule) 0 ≡ false → reads-times rule ≡ true
+reads-by Plain e = sym e
+reads-by (Obstacles diagonals) e = sym e
+reads-by HalfSum e = refl
+reads-by Closest e = sym e
+reads-by ByTime e = refl
+reads-by (FromMaskCell origin) e = refl
+reads-by (FromAmount origin) e = refl
+
+-- ---- the tests by number
+
+pub entered-anywhere : (n : ℕ) (obstacles : Grid ℕ) (v : ℕ) → n ≡ 0 → true ≡ may-enter n obstacles v
+entered-anywhere n obstacles v nothing = rw nothing
+
+pub entered-if-free : (n : ℕ) {obstacles : List ℕ} {v : ℕ} {answer : Bool} → (n ≡ 0 → ⊥) → SaysFree obstacles v answer → (size : Size) → answer ≡ may-enter n (on size obstacles) v
+entered-if-free n some free-says size = rw (ne-eqb n 0 some) (free-says .says size)
+
+pub asked : {avoided : ℕ} {size : Size} {obstacles : List ℕ} {u v : ℕ} → MayAsk avoided size obstacles u v → avoided ≡ 2 → Among size obstacles u v
+asked asks both = record { pair = asks .pair; lent = asks .lent (rw both) }
+
+module _ (n : ℕ) (obstacles : Grid ℕ) (u v : ℕ) where
+  pub never-blocked : (diagonally : Bool) → (n ≡ 2 → ⊥) → false ≡ blocked-by n diagonally obstacles u v
+  never-blocked diagonally other = rw (ne-eqb n 2 other)
+
+  pub straight-not-blocked : {diagonally : Bool} → n ≡ 2 → diagonally ≡ false → false ≡ blocked-by n diagonally obstacles u v
+  straight-not-blocked both is-straight = rw (both, is-straight)
+
+  pub blocked-between : {diagonally answer : Bool} → n ≡ 2 → diagonally ≡ true → answer ≡ blocked Exclude obstacles u v → answer ≡ blocked-by n diagonally obstacles u v
+  blocked-between both is-diagonal says = rw (both, is-diagonal) says

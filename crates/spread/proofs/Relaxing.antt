@@ -1,5 +1,5 @@
 -- One neighbour is tried: what the code does to the buffers is the machine's relaxation of what they hold. Assumes nothing.
-use mathlib.Core.Bool.{Bool, true, false}
+use mathlib.Core.Bool.{Bool, true, false, cond}
 use mathlib.Core.List.{List}
 use mathlib.Core.Path.{_≡_, refl, sym, ap, _∙_, subst}
 use Prim.Native.Nat.{ℕ, _<_}
@@ -12,11 +12,12 @@ use Rattle.rules.specs.Values.{Carried, nearer}
 use Rattle.spread.specs.declared.search.Rule.{Rule}
 use Rattle.spread.specs.declared.search.Search.{Search}
 use Rattle.spread.specs.declared.relax.Left.{Left}
-use Rattle.spread.specs.Nets.{sized, carries, reads-times, labels-of}
-use Rattle.spread.specs.Steps.{formula, entering, labelled, Timed}
+use Rattle.spread.specs.Nets.{sized, carries, labels-of}
+use Rattle.spread.specs.Steps.{formula, entering, labelled, on, formula-number, formula-by, length-of}
 use Rattle.spread.specs.Waiting.{Waiting, Joining, Joined}
 use Rattle.spread.specs.Buffers.{Buffers, buffers, Holds, Does, storing, relaxing, carried-on}
-use Rattle.spread.specs.Loop.{left-label, Trying}
+use Rattle.spread.specs.Loop.{left-label, Trying, Storing, Stored}
+use Rattle.spread.proofs.Permits.{formed-by}
 use Rattle.spread.proofs.Labels.{label-held, labels-stored, length-carried-on, not-carried-on}
 
 module _ {search : Search} {v : ℕ} {distances carried : List Float} {marks queue : List ℕ} {ring : Ring} (tries : Trying search v (buffers distances carried marks queue ring)) where
@@ -96,10 +97,26 @@ module _ {search : Search} {v : ℕ} {distances carried : List Float} {marks que
       kept = λ no-value. refl;
     }
 
--- The time of a cell can be read where the rule reads it.
-module _ {search : Search} {times : List Float} {u v : ℕ} (timed : Timed search times u v) {rule : Rule} (is-rule : search .rule ≡ rule) (reads : reads-times rule ≡ true) where
-  pub left-time-read : u < length times
-  left-time-read = rw (timed .lent (ap reads-times is-rule ∙ reads)) (timed .first)
+-- ---- by the numbers of the rule
 
-  pub entered-time-read : v < length times
-  entered-time-read = rw (timed .lent (ap reads-times is-rule ∙ reads)) (timed .second)
+module _ {search : Search} {v : ℕ} {b : Buffers} (tries : Trying search v b) {carrying : Bool} (numbered : carrying ≡ carries (search .rule)) where
+  pub storing-at : Storing carrying v b
+  storing-at = record { distance-inside = distance-inside tries; value-inside = λ carried-along. value-inside tries (sym numbered ∙ carried-along); joins = joins tries }
+
+  -- What the code stored is what the machine stores.
+  pub stored-does : (d x : Float) {after : Buffers} → Stored carrying v d x b after → Does search (storing v (labelled (search .rule) d x)) b after
+  stored-does d x {after} stored =
+      subst (λ l. Does search (storing v (labelled (search .rule) d x)) b (buffers l (after .carried) (after .marks) (after .queue) (after .ring)))
+      (sym (stored .distances-are))
+      (store-does tries d x (stored .carried-is ∙ ap (λ t. cond t (set (b .carried) v x) (b .carried)) numbered) (stored .joined))
+
+pub formed-as :
+    (search : Search) (times : List Float) {n : ℕ} → n ≡ formula-number (search .rule)
+    → (diagonally : Bool) {step : Float} → step ≡ length-of diagonally
+    → (u v : ℕ) (d : Float) {new : Float} → new ≡ formula-by n (on (search .size) times) u step v d
+    → new ≡ formula (search .rule) (sized search times) u (length-of diagonally) v d
+formed-as search times numbered diagonally {step} long u v d formed =
+    formed
+    ∙ ap (λ m. formula-by m (on (search .size) times) u step v d) numbered
+    ∙ ap (λ s. formula-by (formula-number (search .rule)) (on (search .size) times) u s v d) long
+    ∙ formed-by (search .rule) (sized search times) u (length-of diagonally) v d

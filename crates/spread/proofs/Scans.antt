@@ -1,23 +1,27 @@
 -- The neighbours are tried one after the other: what the code does to the buffers is the machine's scan of what they hold. Assumes nothing.
 use mathlib.Core.Bool.{Bool, true, false, cond}
-use mathlib.Core.List.{List, [], _∷_, _++_, map, map-append}
+use mathlib.Core.List.{List, [], _∷_, _++_, map, map-append, append-nil, append-assoc}
 use mathlib.Core.Path.{_≡_, refl, sym, ap, _∙_, subst}
 use Prim.Native.Nat.{ℕ, suc, _+_, _-_, _≤_, _<_}
+use native.Mathlib.Numerals.{add-one}
 use native.Mathlib.Omega.{arith}
+use borrow.Author.Tests.{leb-true, leb-false}
+use lib.Dec.{eqb, leb}
 use lib.ListN.{length, getD, take, drop, length-drop}
 use lib.Seq.{take-suc, getD-drop}
 use Rattle.binary32.specs.Steps.{straight, diagonal}
 use Rattle.fifo.specs.Machine.{Net, State, scan}
 use Rattle.fifo.proofs.Induction.{scan-append}
-use Rattle.rules.specs.declared.Size.{Size}
 use Rattle.rules.specs.Cells.{keep, over}
 use Rattle.rules.specs.Values.{Carried}
 use Rattle.spread.specs.declared.search.Rule.{Rule}
 use Rattle.spread.specs.declared.search.Search.{Search}
 use Rattle.spread.specs.declared.relax.Left.{Left}
-use Rattle.spread.specs.Steps.{Terrain, on, entering, avoids, may-straight, may-diagonal, straight-steps, diagonal-steps, MayAsk}
+use Rattle.spread.specs.Steps.{Terrain, on, entering, may-straight, may-diagonal, avoided-number, Numbers, numbers-of, may-enter, blocked-by, may-step, length-of}
+use Rattle.spread.specs.Steps.{straight-steps, diagonal-steps, steps-by, MayAsk, Timed}
 use Rattle.spread.specs.Buffers.{Buffers, Good, Holds, Does, relaxing, scanning}
-use Rattle.spread.specs.Loop.{left-label, Relaxes, Entering, Scanning}
+use Rattle.spread.specs.Loop.{left-label, listed-steps, Entering, Scanning}
+use Rattle.spread.proofs.Permits.{permitted-by, avoids-by, reads-by}
 
 -- ---- operations one after the other
 
@@ -107,24 +111,67 @@ module _ (search : Search) (left : Left) {steps : List (ℕ × (Carried → Carr
   unfolding scan
   none-tried none good = does-nothing good (λ net t. ap (λ l. scan net (left-label search left) l t) (sym none))
 
-module _ (search : Search) (ground : Terrain) (left : Left) (v : ℕ) {b : Buffers} {may : Bool} where
-  module _ (says : may ≡ may-straight (search .rule) (on (search .size) (ground .obstacles)) v) where
-    pub straight-tried :
-        {after : Buffers} → may ≡ true → Does search (relaxing (left-label search left) v (entering search (ground .times) (left .cell) straight v)) b after
-        → Does search (scanning (left-label search left) (straight-steps search ground (left .cell) (v ∷ []))) b after
-    straight-tried permitted = one-tried search left (straight-one search ground (left .cell) v true (sym says ∙ permitted))
+-- ---- one step
 
-    pub straight-refused : may ≡ false → Good search b → Does search (scanning (left-label search left) (straight-steps search ground (left .cell) (v ∷ []))) b b
-    straight-refused refused = none-tried search left (straight-one search ground (left .cell) v false (sym says ∙ refused))
+module _ (search : Search) (ground : Terrain) (left : Left) (v : ℕ) (diagonally : Bool) {n : ℕ} (numbered : n ≡ avoided-number (search .rule)) where
+  abbrev step-there : Carried → Carried
+  step-there = entering search (ground .times) (left .cell) (length-of diagonally) v
 
-  module _ (says : may ≡ may-diagonal (search .rule) (on (search .size) (ground .obstacles)) (left .cell) v) where
-    pub diagonal-tried :
-        {after : Buffers} → may ≡ true → Does search (relaxing (left-label search left) v (entering search (ground .times) (left .cell) diagonal v)) b after
-        → Does search (scanning (left-label search left) (diagonal-steps search ground (left .cell) (v ∷ []))) b after
-    diagonal-tried permitted = one-tried search left (diagonal-one search ground (left .cell) v true (sym says ∙ permitted))
+  one-step :
+      (kind may : Bool) → kind ≡ diagonally → may-step n kind (on (search .size) (ground .obstacles)) (left .cell) v ≡ may
+      → steps-by search ground kind (left .cell) (v ∷ []) ≡ cond may ((v, entering search (ground .times) (left .cell) (length-of kind) v) ∷ []) []
+  one-step true may kind is =
+      diagonal-one search ground (left .cell) v may
+      (permitted-by (search .rule) true (on (search .size) (ground .obstacles)) (left .cell) v
+      ∙ ap (λ m. may-step m true (on (search .size) (ground .obstacles)) (left .cell) v) (sym numbered) ∙ is)
+  one-step false may kind is =
+      straight-one search ground (left .cell) v may
+      (permitted-by (search .rule) false (on (search .size) (ground .obstacles)) (left .cell) v
+      ∙ ap (λ m. may-step m false (on (search .size) (ground .obstacles)) (left .cell) v) (sym numbered) ∙ is)
 
-    pub diagonal-refused : may ≡ false → Good search b → Does search (scanning (left-label search left) (diagonal-steps search ground (left .cell) (v ∷ []))) b b
-    diagonal-refused refused = none-tried search left (diagonal-one search ground (left .cell) v false (sym says ∙ refused))
+  module _ {entered : Bool} (enters : entered ≡ may-enter n (on (search .size) (ground .obstacles)) v) where
+    -- A step that is not permitted leads nowhere.
+    refused-whatever : (blocks : Bool) → cond blocks false false ≡ false
+    refused-whatever true = refl
+    refused-whatever false = refl
+
+    pub not-entered :
+        {b : Buffers} → entered ≡ false → Good search b
+        → Does search (scanning (left-label search left) (steps-by search ground diagonally (left .cell) (v ∷ []))) b b
+    not-entered refused =
+        none-tried search left
+        (one-step diagonally false refl
+        (ap (λ may. cond (blocked-by n diagonally (on (search .size) (ground .obstacles)) (left .cell) v) false may) (sym enters ∙ refused)
+        ∙ refused-whatever (blocked-by n diagonally (on (search .size) (ground .obstacles)) (left .cell) v)))
+
+    -- A candidate that is not below changes nothing, permitted or not.
+    pub not-below :
+        {b : Buffers} → Does search (relaxing (left-label search left) v step-there) b b → Good search b
+        → Does search (scanning (left-label search left) (steps-by search ground diagonally (left .cell) (v ∷ []))) b b
+    not-below {b} does good = go (may-step n diagonally (on (search .size) (ground .obstacles)) (left .cell) v) refl
+      where
+        go :
+            (may : Bool) → may-step n diagonally (on (search .size) (ground .obstacles)) (left .cell) v ≡ may
+            → Does search (scanning (left-label search left) (steps-by search ground diagonally (left .cell) (v ∷ []))) b b
+        go true is = one-tried search left (one-step diagonally true refl is) does
+        go false is = none-tried search left (one-step diagonally false refl is) good
+
+    module _ {blocks : Bool} (says : blocks ≡ blocked-by n diagonally (on (search .size) (ground .obstacles)) (left .cell) v) where
+      pub step-blocked :
+          {b : Buffers} → blocks ≡ true → Good search b
+          → Does search (scanning (left-label search left) (steps-by search ground diagonally (left .cell) (v ∷ []))) b b
+      step-blocked is =
+          none-tried search left
+          (one-step diagonally false refl
+          (ap (λ blocked. cond blocked false (may-enter n (on (search .size) (ground .obstacles)) v)) (sym says ∙ is)))
+
+      pub step-tried :
+          {before after : Buffers} → entered ≡ true → blocks ≡ false → Does search (relaxing (left-label search left) v step-there) before after
+          → Does search (scanning (left-label search left) (steps-by search ground diagonally (left .cell) (v ∷ []))) before after
+      step-tried is open-there =
+          one-tried search left
+          (one-step diagonally true refl
+          (ap (λ blocked. cond blocked false (may-enter n (on (search .size) (ground .obstacles)) v)) (sym says ∙ open-there) ∙ sym enters ∙ is))
 
 -- ---- one cell more
 
@@ -143,71 +190,115 @@ part-last cells start k from below =
     ∙ take-suc (drop start cells) (k - start) 0 (rw length-drop (omega arith))
     ∙ ap (λ c. part cells start k ++ c ∷ []) (getD-drop start cells (k - start) 0 ∙ ap (λ n. getD cells n 0) back)
 
-module _
-    (search : Search) (left : Left) (steps : List ℕ → List (ℕ × (Carried → Carried)))
-    (append : (l m : List ℕ) → steps (l ++ m) ≡ steps l ++ steps m) (cells : List ℕ) (start : ℕ)
-  where
-    none-scanned : {b : Buffers} → steps [] ≡ [] → Good search b → Does search (scanning (left-label search left) (steps (part cells start start))) b b
-    none-scanned nowhere = none-tried search left (ap steps (part-none cells start) ∙ nowhere)
+-- The straight ones among the first k, where those before `middle` are straight.
+abbrev pub straights : ℕ → ℕ → ℕ
+straights middle k = k - (k - middle)
 
-    one-scanned :
-        {before between after : Buffers} (k : ℕ) → start ≤ k → k < length cells
-        → Does search (scanning (left-label search left) (steps (part cells start k))) before between
-        → Does search (scanning (left-label search left) (steps (getD cells k 0 ∷ []))) between after
-        → Does search (scanning (left-label search left) (steps (part cells start (k + 1)))) before after
-    one-scanned k from below does does-then =
-        does-both does does-then (λ net t.
-        sym (scan-append net (left-label search left) (steps (part cells start k)) (steps (getD cells k 0 ∷ [])) t)
-        ∙ ap (λ l. scan net (left-label search left) l t) (sym (ap steps (part-last cells start k from below) ∙ append (part cells start k) (getD cells k 0 ∷ []))))
-
-module _ (search : Search) (ground : Terrain) (left : Left) (cells : List ℕ) where
-  pub straight-begun : {b : Buffers} → Good search b → Does search (scanning (left-label search left) (straight-steps search ground (left .cell) (part cells 0 0))) b b
-  unfolding straight-steps keep
-  straight-begun = none-scanned search left (straight-steps search ground (left .cell)) (straight-append search ground (left .cell)) cells 0 refl
-
-  pub straight-on :
-      {before between after : Buffers} (k : ℕ) → k < length cells
-      → Does search (scanning (left-label search left) (straight-steps search ground (left .cell) (part cells 0 k))) before between
-      → Does search (scanning (left-label search left) (straight-steps search ground (left .cell) (getD cells k 0 ∷ []))) between after
-      → Does search (scanning (left-label search left) (straight-steps search ground (left .cell) (part cells 0 (k + 1)))) before after
-  straight-on k = one-scanned search left (straight-steps search ground (left .cell)) (straight-append search ground (left .cell)) cells 0 k (omega arith)
-
-  pub straight-done :
-      {before after : Buffers} (k : ℕ)
-      → Does search (scanning (left-label search left) (straight-steps search ground (left .cell) (part cells 0 k))) before after
-      → Does search (scanning (left-label search left) (straight-steps search ground (left .cell) (take k cells))) before after
-  straight-done k = let all : k - 0 ≡ k = omega arith in
-      does-as (λ net t. ap (λ n. scan net (left-label search left) (straight-steps search ground (left .cell) (take n cells)) t) all)
-
-  pub diagonal-begun :
-      {b : Buffers} (start : ℕ) → Good search b
-      → Does search (scanning (left-label search left) (diagonal-steps search ground (left .cell) (part cells start start))) b b
+module _ (search : Search) (ground : Terrain) (u : ℕ) (cells : List ℕ) where
+  -- Where all are straight, the steps are.
+  all-straight : (k : ℕ) → listed-steps search ground u cells k k ≡ straight-steps search ground u (take k cells)
   unfolding diagonal-steps keep
-  diagonal-begun start =
-      none-scanned search left (diagonal-steps search ground (left .cell)) (diagonal-append search ground (left .cell)) cells start refl
+  all-straight k = ap (λ l. straight-steps search ground u (take k cells) ++ diagonal-steps search ground u l) (part-none cells k) ∙ append-nil (straight-steps search ground u (take k cells))
 
-  pub diagonal-on :
-      {before between after : Buffers} (start k : ℕ) → start ≤ k → k < length cells
-      → Does search (scanning (left-label search left) (diagonal-steps search ground (left .cell) (part cells start k))) before between
-      → Does search (scanning (left-label search left) (diagonal-steps search ground (left .cell) (getD cells k 0 ∷ []))) between after
-      → Does search (scanning (left-label search left) (diagonal-steps search ground (left .cell) (part cells start (k + 1)))) before after
-  diagonal-on start = one-scanned search left (diagonal-steps search ground (left .cell)) (diagonal-append search ground (left .cell)) cells start
+  straight-more :
+      (k : ℕ) → k < length cells
+      → listed-steps search ground u cells (k + 1) (k + 1) ≡ listed-steps search ground u cells k k ++ straight-steps search ground u (getD cells k 0 ∷ [])
+  straight-more k below =
+      all-straight (k + 1)
+      ∙ ap (straight-steps search ground u) (ap (λ n. take n cells) (add-one k) ∙ take-suc cells k 0 below)
+      ∙ straight-append search ground u (take k cells) (getD cells k 0 ∷ [])
+      ∙ ap (λ l. l ++ straight-steps search ground u (getD cells k 0 ∷ [])) (sym (all-straight k))
+
+  diagonal-more :
+      (middle k : ℕ) → middle ≤ k → k < length cells
+      → listed-steps search ground u cells middle (k + 1) ≡ listed-steps search ground u cells middle k ++ diagonal-steps search ground u (getD cells k 0 ∷ [])
+  diagonal-more middle k from below =
+      let first = straight-steps search ground u (take middle cells) in
+      ap (λ l. first ++ l) (ap (diagonal-steps search ground u) (part-last cells middle k from below) ∙ diagonal-append search ground u (part cells middle k) (getD cells k 0 ∷ []))
+      ∙ sym (append-assoc first (diagonal-steps search ground u (part cells middle k)) (diagonal-steps search ground u (getD cells k 0 ∷ [])))
+
+  listed-more :
+      (middle k : ℕ) (diagonally : Bool) → leb middle k ≡ diagonally → k < length cells
+      → listed-steps search ground u cells (straights middle (k + 1)) (k + 1)
+      ≡ listed-steps search ground u cells (straights middle k) k ++ steps-by search ground diagonally u (getD cells k 0 ∷ [])
+  listed-more middle k true is below =
+      let from = leb-true middle k is in
+      let now : straights middle (k + 1) ≡ middle = omega arith in
+      let then : straights middle k ≡ middle = omega arith in
+      ap (λ n. listed-steps search ground u cells n (k + 1)) now ∙ diagonal-more middle k from below
+      ∙ ap (λ n. listed-steps search ground u cells n k ++ diagonal-steps search ground u (getD cells k 0 ∷ [])) (sym then)
+  listed-more middle k false is below =
+      let less = leb-false middle k is in
+      let now : straights middle (k + 1) ≡ k + 1 = omega arith in
+      let then : straights middle k ≡ k = omega arith in
+      ap (λ n. listed-steps search ground u cells n (k + 1)) now ∙ straight-more k below
+      ∙ ap (λ n. listed-steps search ground u cells n k ++ straight-steps search ground u (getD cells k 0 ∷ [])) (sym then)
+
+module _ (search : Search) (ground : Terrain) (left : Left) (cells : List ℕ) (middle : ℕ) where
+  pub none-scanned : {b : Buffers} → Good search b → Does search (scanning (left-label search left) (listed-steps search ground (left .cell) cells (straights middle 0) 0)) b b
+  unfolding straight-steps keep
+  none-scanned =
+      let none : straights middle 0 ≡ 0 = omega arith in
+      none-tried search left (ap (λ n. listed-steps search ground (left .cell) cells n 0) none ∙ all-straight search ground (left .cell) cells 0)
+
+  pub one-scanned :
+      {before between after : Buffers} (k : ℕ) → k < length cells
+      → Does search (scanning (left-label search left) (listed-steps search ground (left .cell) cells (straights middle k) k)) before between
+      → Does search (scanning (left-label search left) (steps-by search ground (leb middle k) (left .cell) (getD cells k 0 ∷ []))) between after
+      → Does search (scanning (left-label search left) (listed-steps search ground (left .cell) cells (straights middle (k + 1)) (k + 1))) before after
+  one-scanned k below does does-then =
+      let so-far = listed-steps search ground (left .cell) cells (straights middle k) k in
+      let more = steps-by search ground (leb middle k) (left .cell) (getD cells k 0 ∷ []) in
+      does-both does does-then (λ net t.
+      sym (scan-append net (left-label search left) so-far more t)
+      ∙ ap (λ l. scan net (left-label search left) l t) (sym (listed-more search ground (left .cell) cells middle k (leb middle k) refl below)))
+
+  pub all-scanned :
+      {before after : Buffers} (k : ℕ) → middle ≤ k
+      → Does search (scanning (left-label search left) (listed-steps search ground (left .cell) cells (straights middle k) k)) before after
+      → Does search (scanning (left-label search left) (listed-steps search ground (left .cell) cells middle k)) before after
+  all-scanned k most =
+      let all : straights middle k ≡ middle = omega arith in
+      does-as (λ net t. ap (λ n. scan net (left-label search left) (listed-steps search ground (left .cell) cells n k) t) all)
 
 -- ---- what the callees ask
 
-pub straight-asks : {rule : Rule} {size : Size} {obstacles : List ℕ} {u v : ℕ} → MayAsk rule size obstacles u v → avoids rule ≡ true → v < length obstacles
-straight-asks asks reads = rw (asks .lent reads) (asks .pair .second)
-
-module _
-    {search : Search} {ground : Terrain} {u : ℕ} {cells : List ℕ} {start end : ℕ} {first b : Buffers}
-    (scans : Scanning search ground u cells start end first) (good : Good search b) (k : ℕ)
-  where
-    pub entering-at : Entering search ground u (getD cells k 0) b
-    entering-at = record {
-      good = good;
-      may-ask = record { pair = record { bounds = scans .setting .bounds; first = scans .source; second = scans .inside k }; lent = scans .setting .obstacles-length };
-      timed = record { lent = scans .setting .times-length; first = scans .source; second = scans .inside k };
+-- Where the rule is known, so are its numbers.
+pub scans-as :
+    {search : Search} {by : Numbers} {ground : Terrain} {u : ℕ} {cells : List ℕ} {middle end : ℕ} {b : Buffers} {rule : Rule}
+    → Scanning search by ground u cells middle end b → search .rule ≡ rule → Scanning search (numbers-of rule) ground u cells middle end b
+scans-as scans is-rule =
+    record {
+      numbered = sym (ap numbers-of is-rule);
+      good = scans .good;
+      setting = scans .setting;
+      source = scans .source;
+      inside = scans .inside;
+      eight = scans .eight;
+      middle-most = scans .middle-most;
+      end-most = scans .end-most;
     }
 
-pub relaxes : {search : Search} {ground : Terrain} {u v : ℕ} {b : Buffers} → Entering search ground u v b → Relaxes search (ground .times) u v b
-relaxes enters = record { tries = record { good = enters .good; inside = enters .timed .second }; timed = enters .timed }
+module _
+    {search : Search} {by : Numbers} {ground : Terrain} {u : ℕ} {cells : List ℕ} {middle end : ℕ} {first b : Buffers}
+    (scans : Scanning search by ground u cells middle end first) (good : Good search b) (k : ℕ)
+  where
+    pub entering-at : Entering search by ground u (getD cells k 0) b
+    entering-at = record { numbered = scans .numbered; tries = record { good = good; inside = scans .inside k }; setting = scans .setting; source = scans .source }
+
+module _ {search : Search} {by : Numbers} {ground : Terrain} {u v : ℕ} {b : Buffers} (enters : Entering search by ground u v b) where
+  pub may-asks : MayAsk (by .avoided) (search .size) (ground .obstacles) u v
+  may-asks = record {
+    pair = record { bounds = enters .setting .bounds; first = enters .source; second = enters .tries .inside };
+    lent = λ some. enters .setting .obstacles-length (avoids-by (search .rule) (sym (ap (λ n. eqb (n .avoided) 0) (enters .numbered)) ∙ some));
+  }
+
+  pub obstacle-inside : eqb (by .avoided) 0 ≡ false → v < length (ground .obstacles)
+  obstacle-inside some = rw (may-asks .lent some) (enters .tries .inside)
+
+  pub timed : Timed (by .formula) (ground .times) u v
+  timed = record {
+    lent = λ some.
+        let long = enters .setting .times-length (reads-by (search .rule) (sym (ap (λ n. eqb (n .formula) 0) (enters .numbered)) ∙ some)) in
+        (rw long (enters .source), rw long (enters .tries .inside));
+  }

@@ -19,44 +19,12 @@ use Rattle.spread.specs.declared.search.Rule.{Rule}
 use Rattle.spread.specs.declared.search.Search.{Search}
 use Rattle.spread.specs.declared.relax.Left.{Left}
 use Rattle.spread.specs.Nets.{carries}
-use Rattle.spread.specs.Steps.{Terrain, labelled, straight-steps, diagonal-steps, Follows}
+use Rattle.spread.specs.Steps.{Terrain, labelled, numbers-of, straight-steps, diagonal-steps, Follows}
 use Rattle.spread.specs.Waiting.{Waiting, SomeWait, TookFirst}
 use Rattle.spread.specs.Buffers.{Buffers, buffers, Good, Holds, Does, scanning}
 use Rattle.spread.specs.Loop.{left-label, listed-steps, CanLeave, LeftCell, Scanning, Taking, TookCell}
 use Rattle.spread.proofs.Labels.{label-held}
 use Rattle.spread.proofs.Scans.{part, does-both}
-
--- ---- all neighbours
-
--- The straight ones and then the diagonal ones.
-pub both-scanned :
-    (search : Search) (ground : Terrain) (left : Left) (cells : List ℕ) (middle end : ℕ) {before between after : Buffers}
-    → Does search (scanning (left-label search left) (straight-steps search ground (left .cell) (lib.ListN.take middle cells))) before between
-    → Does search (scanning (left-label search left) (diagonal-steps search ground (left .cell) (part cells middle end))) between after
-    → Does search (scanning (left-label search left) (listed-steps search ground (left .cell) cells middle end)) before after
-both-scanned search ground left cells middle end does does-then =
-    does-both does does-then (λ net t.
-    sym (scan-append net (left-label search left) (straight-steps search ground (left .cell) (lib.ListN.take middle cells)) (diagonal-steps search ground (left .cell) (part cells middle end)) t))
-
--- A search with its own rule written out is the same search.
-abbrev pub with-rule : Rule → Search → Search
-with-rule rule search = record { rule = rule; size = search .size; limit = search .limit }
-
-module _ {search : Search} {rule : Rule} (is-rule : search .rule ≡ rule) where
-  same-search : search ≡ with-rule rule search
-  same-search = ap (λ r. with-rule r search) is-rule
-
-  pub scanning-as :
-      {ground : Terrain} {u : ℕ} {cells : List ℕ} {start end : ℕ} {b : Buffers}
-      → Scanning search ground u cells start end b → Scanning (with-rule rule search) ground u cells start end b
-  scanning-as {ground} {u} {cells} {start} {end} {b} = subst (λ s. Scanning s ground u cells start end b) same-search
-
-  pub scanned-as :
-      (ground : Terrain) (left : Left) (cells : List ℕ) (start end : ℕ) {before after : Buffers}
-      → Does (with-rule rule search) (scanning (left-label (with-rule rule search) left) (listed-steps (with-rule rule search) ground (left .cell) cells start end)) before after
-      → Does search (scanning (left-label search left) (listed-steps search ground (left .cell) cells start end)) before after
-  scanned-as ground left cells start end {before} {after} =
-      subst (λ s. Does s (scanning (left-label s left) (listed-steps s ground (left .cell) cells start end)) before after) (sym same-search)
 
 -- ---- the cell that is left
 
@@ -96,14 +64,15 @@ module _
       }
 
       module _ {left : Left} (leaves : LeftCell (search .rule) distances carried (taken .cell) left) {near : Neighbours} (lists : Lists (search .size) (taken .cell) near) where
-        pub scans : Scanning search ground (left .cell) (near .cells) (near .straight) (near .count) (buffers distances carried marks′ queue (taken .ring))
+        pub scans : Scanning search (numbers-of (search .rule)) ground (left .cell) (near .cells) (near .straight) (near .count) (buffers distances carried marks′ queue (taken .ring))
         scans = record {
+          numbered = refl;
           good = good-taken;
           setting = takes .setting;
           source = rw (leaves .same-cell) cell-inside;
           inside = lists .inside;
           eight = lists .eight;
-          start-most = lists .straight-most;
+          middle-most = lists .straight-most;
           end-most = lists .count-most;
         }
 

@@ -1,11 +1,11 @@
 -- What the functions of the loop ask and promise, from one neighbour to the whole run. Definitions only.
-use mathlib.Core.Bool.{true, false}
+use mathlib.Core.Bool.{Bool, true, false, cond}
 use mathlib.Core.List.{List, [], _∷_, _++_, map}
 use mathlib.Core.Path.{_≡_}
 use Prim.Native.Nat.{ℕ, _-_, _*_, _≤_, _<_}
 use lib.Dec.{T}
 use lib.Ieee.{Float, nan}
-use lib.ListN.{length, getD, take, drop}
+use lib.ListN.{length, getD, set, take, drop}
 use Rattle.cells.specs.Ring.{contents}
 use Rattle.fifo.specs.Machine as machine
 use Rattle.fifo.specs.Machine.{Net, State, initial, run, takes, trace}
@@ -16,7 +16,8 @@ use Rattle.spread.specs.declared.search.Search.{Search}
 use Rattle.spread.specs.declared.relax.Left.{Left}
 use Rattle.spread.specs.declared.take.Took.{Took}
 use Rattle.spread.specs.Nets.{carries, reads-times, labels-of}
-use Rattle.spread.specs.Steps.{Terrain, labelled, avoids, straight-steps, diagonal-steps, MayAsk, Timed, Follows}
+use Rattle.spread.specs.Steps.{Terrain, labelled, avoids, Numbers, numbers-of, straight-steps, diagonal-steps, Follows}
+use Rattle.spread.specs.Waiting.{Joining, Joined}
 use Rattle.spread.specs.Buffers.{Buffers, Good, Holds}
 use Rattle.spread.specs.Begin.{Lengths}
 
@@ -35,25 +36,34 @@ pub record Trying (search : Search) (v : ℕ) (b : Buffers) : Type 0 where
   pub good : Good search b
   pub inside : v < count (search .size)
 
--- It is to be tried from the cell u, whose time and its own can be read where the rule reads them.
-pub record Relaxes (search : Search) (times : List Float) (u v : ℕ) (b : Buffers) : Type 0 where
+-- A label is to be stored at the cell v.
+pub record Storing (carrying : Bool) (v : ℕ) (b : Buffers) : Type 0 where
+  pub distance-inside : v < length (b .distances)
+  pub value-inside : carrying ≡ true → v < length (b .carried)
+  pub joins : Joining v (b .marks) (b .queue) (b .ring)
+
+-- It is stored, and the cell waits.
+pub record Stored (carrying : Bool) (v : ℕ) (d x : Float) (before after : Buffers) : Type 0 where
+  pub distances-are : after .distances ≡ set (before .distances) v d
+  pub carried-is : after .carried ≡ cond carrying (set (before .carried) v x) (before .carried)
+  pub joined : Joined v (before .marks) (before .queue) (before .ring) (after .marks) (after .queue) (after .ring)
+
+-- It is to be tried from the cell u, by the numbers of the rule.
+pub record Entering (search : Search) (by : Numbers) (ground : Terrain) (u v : ℕ) (b : Buffers) : Type 0 where
+  pub numbered : by ≡ numbers-of (search .rule)
   pub tries : Trying search v b
-  pub timed : Timed search times u v
+  pub setting : Setting search ground
+  pub source : u < count (search .size)
 
--- It is to be tried if the rule permits the step.
-pub record Entering (search : Search) (ground : Terrain) (u v : ℕ) (b : Buffers) : Type 0 where
-  pub good : Good search b
-  pub may-ask : MayAsk (search .rule) (search .size) (ground .obstacles) u v
-  pub timed : Timed search (ground .times) u v
-
--- From the cell u those of the eight listed cells that stand from `start` to before `end` are to be tried.
-pub record Scanning (search : Search) (ground : Terrain) (u : ℕ) (cells : List ℕ) (start end : ℕ) (b : Buffers) : Type 0 where
+-- From the cell u those of the eight listed cells that stand before `end` are to be tried, those before `middle` straight.
+pub record Scanning (search : Search) (by : Numbers) (ground : Terrain) (u : ℕ) (cells : List ℕ) (middle end : ℕ) (b : Buffers) : Type 0 where
+  pub numbered : by ≡ numbers-of (search .rule)
   pub good : Good search b
   pub setting : Setting search ground
   pub source : u < count (search .size)
   pub inside : (k : ℕ) → getD cells k 0 < count (search .size)
   pub eight : length cells ≡ 8
-  pub start-most : start ≤ end
+  pub middle-most : middle ≤ end
   pub end-most : end ≤ 8
 
 -- The steps from u to listed cells: those before `middle` straight, those from there to before `end` diagonal.

@@ -3,11 +3,12 @@ use mathlib.Core.Bool.{Bool, true, false, not, cond, _&&_}
 use mathlib.Core.List.{List, _++_, map}
 use mathlib.Core.Path.{_≡_}
 use Prim.Native.Nat.{ℕ, _<_}
-use lib.Dec.{T}
+use lib.Dec.{T, eqb}
 use lib.Ieee.{Float, nan}
 use lib.ListN.{length}
 use Rattle.binary32.specs.Steps.{straight, diagonal}
 use Rattle.fifo.specs.Machine.{Net}
+use Rattle.rules.specs.declared.BarrierDiagonals.the-variants.{Include, Exclude}
 use Rattle.rules.specs.declared.Size.{Size}
 use Rattle.rules.specs.Sizes.{Grid, in-bounds, count}
 use Rattle.rules.specs.Cells.{index, row-of, col-of, straight-neighbours, diagonal-neighbours, keep, over}
@@ -73,8 +74,61 @@ may-diagonal ByTime obstacles u v = true
 may-diagonal (FromMaskCell origin) obstacles u v = true
 may-diagonal (FromAmount origin) obstacles u v = true
 
-abbrev pub on : Size → List ℕ → Grid ℕ
-on size obstacles = record { size = size; cells = obstacles }
+abbrev pub on : {A : Type 0} → Size → List A → Grid A
+on size cells = record { size = size; cells = cells }
+
+-- ---- what a rule permits and how it adds, by numbers, which the loop has as constants
+
+abbrev pub formula-number : Rule → ℕ
+formula-number Plain = 0
+formula-number (Obstacles diagonals) = 0
+formula-number HalfSum = 1
+formula-number Closest = 0
+formula-number ByTime = 2
+formula-number (FromMaskCell origin) = 1
+formula-number (FromAmount origin) = 3
+
+abbrev pub avoided-number : Rule → ℕ
+avoided-number Plain = 0
+avoided-number (Obstacles Include) = 1
+avoided-number (Obstacles Exclude) = 2
+avoided-number HalfSum = 0
+avoided-number Closest = 0
+avoided-number ByTime = 0
+avoided-number (FromMaskCell origin) = 0
+avoided-number (FromAmount origin) = 0
+
+-- The number of the formula, the number of what is avoided, and whether a value goes along.
+pub record Numbers : Type 0 where
+  pub formula : ℕ
+  pub avoided : ℕ
+  pub carrying : Bool
+
+abbrev pub numbers : ℕ → ℕ → Bool → Numbers
+numbers formula avoided carrying = record { formula = formula; avoided = avoided; carrying = carrying }
+
+abbrev pub numbers-of : Rule → Numbers
+numbers-of rule = numbers (formula-number rule) (avoided-number rule) (carries rule)
+
+abbrev pub formula-by : ℕ → Grid Float → ℕ → Float → ℕ → Float → Float
+formula-by n times u s v d =
+    cond (eqb n 0) (plus-step s v d)
+    (cond (eqb n 1) (plus-half-sum times u s v d)
+    (cond (eqb n 2) (plus-time times s v d) (plus-time-or-quarter times s v d)))
+
+abbrev pub may-enter : ℕ → Grid ℕ → ℕ → Bool
+may-enter n obstacles v = cond (eqb n 0) true (free obstacles v)
+
+abbrev pub blocked-by : ℕ → Bool → Grid ℕ → ℕ → ℕ → Bool
+blocked-by n diagonally obstacles u v = cond (eqb n 2) (cond diagonally (blocked Exclude obstacles u v) false) false
+
+abbrev pub may-step : ℕ → Bool → Grid ℕ → ℕ → ℕ → Bool
+may-step n diagonally obstacles u v = cond (blocked-by n diagonally obstacles u v) false (may-enter n obstacles v)
+
+-- ---- the steps
+
+abbrev pub length-of : Bool → Float
+length-of diagonally = cond diagonally diagonal straight
 
 -- The steps from u to those of the cells that may be entered.
 unfoldable pub straight-steps : Search → Terrain → ℕ → List ℕ → List (ℕ × (Carried → Carried))
@@ -84,6 +138,10 @@ straight-steps search ground u vs =
 unfoldable pub diagonal-steps : Search → Terrain → ℕ → List ℕ → List (ℕ × (Carried → Carried))
 diagonal-steps search ground u vs =
     map (over diagonal (entering search (ground .times) u)) (keep (may-diagonal (search .rule) (on (search .size) (ground .obstacles)) u) vs)
+
+-- Those of one kind.
+abbrev pub steps-by : Search → Terrain → Bool → ℕ → List ℕ → List (ℕ × (Carried → Carried))
+steps-by search ground diagonally u vs = cond diagonally (diagonal-steps search ground u vs) (straight-steps search ground u vs)
 
 -- The net's order is by distance, and its neighbours are these steps.
 pub record Follows (search : Search) (ground : Terrain) (net : Net Carried) : Type 0 where
@@ -116,13 +174,11 @@ pub record Among (size : Size) (obstacles : List ℕ) (u v : ℕ) : Type 0 where
   pub pair : Pair size u v
   pub lent : length obstacles ≡ count size
 
--- The grid of obstacles is lent where the rule reads it.
-pub record MayAsk (rule : Rule) (size : Size) (obstacles : List ℕ) (u v : ℕ) : Type 0 where
+-- The grid of obstacles is lent where they are avoided.
+pub record MayAsk (avoided : ℕ) (size : Size) (obstacles : List ℕ) (u v : ℕ) : Type 0 where
   pub pair : Pair size u v
-  pub lent : avoids rule ≡ true → length obstacles ≡ count size
+  pub lent : eqb avoided 0 ≡ false → length obstacles ≡ count size
 
--- The times of two cells can be read where the rule reads them.
-pub record Timed (search : Search) (times : List Float) (u v : ℕ) : Type 0 where
-  pub lent : reads-times (search .rule) ≡ true → length times ≡ count (search .size)
-  pub first : u < count (search .size)
-  pub second : v < count (search .size)
+-- The times of two cells can be read where the formula reads them.
+pub record Timed (formula : ℕ) (times : List Float) (u v : ℕ) : Type 0 where
+  pub lent : eqb formula 0 ≡ false → (u < length times) × (v < length times)

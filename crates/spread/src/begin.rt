@@ -1,5 +1,6 @@
 // How a search begins: each cell gets its first label and its mark, and the starting cells wait in row order.
 use crate::first::first_label;
+use crate::relax::carries;
 use crate::relax::carry;
 use crate::search::Search;
 use crate::waiting::begin_waiting;
@@ -31,7 +32,7 @@ fn begin_cell(
     let label = first_label(search, targets, times, values, cell);
     distances[at] = label.distance;
     let rule = search.rule;
-    carry(rule, cell, label.value, carried);
+    carry(carries(rule), cell, label.value, carried);
     begin_waiting(cell, label.starts, marks, queue, ring)
 }
 

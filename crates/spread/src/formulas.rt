@@ -1,16 +1,14 @@
 // The candidate for a cell that is entered: each rule's formula, with one rounding for each operation.
 use crate::relax::Left;
-use crate::search::Rule;
-use crate::search::Search;
 use binary32::is_nodata;
+use rules::Size;
 ghost use mathlib.Core.Path.{_≡_};
 ghost use mathlib.Core.Bool.{cond, not};
 ghost use lib.Ieee as Ieee;
 ghost use Rattle.binary32.specs.Nodata.{nodata};
 ghost use Rattle.binary32.specs.Numbers.{two};
 ghost use Rattle.rules.specs.Numbers as number;
-ghost use Rattle.spread.specs.Nets.{sized};
-ghost use Rattle.spread.specs.Steps.{formula, Timed};
+ghost use Rattle.spread.specs.Steps.{on, formula-by, Timed};
 
 // A step of length s further from distance d.
 fn plus_step(d: f32, s: f32) -> f32
@@ -43,21 +41,30 @@ fn time_or_quarter(time: f32) -> f32
     time
 }
 
-// The distance over a step from the cell that is left to another, by the rule's formula.
-pub fn candidate(search: Search, times: &[f32], left: Left, step: f32, cell: u32) -> f32
-    requires { ⌜ Timed search (now times) (left .cell) cell ⌝ }
-    ensures { λ r. ⌜ r ≡ formula (search .rule) (sized search (now (times .entry))) (left .cell) step cell (left .distance) ⌝ }
+// The formulas by number. The loop has the number as a constant.
+pub const PLUS_STEP: u8 = 0;
+
+pub const PLUS_HALF_SUM: u8 = 1;
+
+pub const PLUS_TIME: u8 = 2;
+
+pub const PLUS_TIME_OR_QUARTER: u8 = 3;
+
+// The distance over a step from the cell that is left to another, by a formula.
+pub fn candidate(formula: u8, times: &[f32], left: Left, step: f32, cell: u32) -> f32
+    requires { ⌜ Timed formula (now times) (left .cell) cell ⌝ }
+    ensures { λ r. ⌜ ((size : Size) → r ≡ formula-by formula (on size (now (times .entry))) (left .cell) step cell (left .distance)) ⌝ }
 {
     let from = left.cell as usize;
     let to = cell as usize;
-    let rule = search.rule;
-    match rule {
-        Rule::Plain => plus_step(left.distance, step),
-        Rule::Obstacles(_) => plus_step(left.distance, step),
-        Rule::HalfSum => plus_half_sum(left.distance, step, times[from], times[to]),
-        Rule::Closest => plus_step(left.distance, step),
-        Rule::ByTime => plus_time(left.distance, step, times[to]),
-        Rule::FromMaskCell(_) => plus_half_sum(left.distance, step, times[from], times[to]),
-        Rule::FromAmount(_) => plus_time(left.distance, step, time_or_quarter(times[to])),
+    if formula == PLUS_STEP {
+        return plus_step(left.distance, step);
     }
+    if formula == PLUS_HALF_SUM {
+        return plus_half_sum(left.distance, step, times[from], times[to]);
+    }
+    if formula == PLUS_TIME {
+        return plus_time(left.distance, step, times[to]);
+    }
+    plus_time(left.distance, step, time_or_quarter(times[to]))
 }

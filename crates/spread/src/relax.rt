@@ -2,16 +2,21 @@
 use crate::formulas::candidate;
 use crate::search::Rule;
 use crate::search::Search;
+use crate::steps::is_blocked;
+use crate::steps::may_enter;
 use crate::waiting::wait;
+use binary32::DIAGONAL;
+use binary32::STRAIGHT;
 use cells::Ring;
 ghost use mathlib.Core.Path.{_≡_};
-ghost use mathlib.Core.Bool.{true};
+ghost use mathlib.Core.Bool.{true, cond};
+ghost use mathlib.Core.List.{[], _∷_};
 ghost use Prim.Native.Nat.{_<_};
-ghost use lib.ListN.{length};
+ghost use lib.ListN.{length, set};
 ghost use Rattle.spread.specs.Nets as net;
-ghost use Rattle.spread.specs.Steps.{entering, labelled};
-ghost use Rattle.spread.specs.Buffers.{buffers, carried-on, storing, relaxing, Does};
-ghost use Rattle.spread.specs.Loop.{left-label, Trying, Relaxes};
+ghost use Rattle.spread.specs.Steps.{terrain, numbers, length-of, steps-by};
+ghost use Rattle.spread.specs.Buffers.{buffers, scanning, Does};
+ghost use Rattle.spread.specs.Loop.{left-label, Storing, Stored, Entering};
 
 // The cell that is left, with the label that it had when it was taken.
 pub struct Left {
@@ -36,19 +41,29 @@ pub fn carries(rule: Rule) -> bool
 }
 
 // Stores the value that goes along, if one does.
-pub fn carry(rule: Rule, cell: u32, value: f32, carried: &mut [f32])
-    requires { ⌜ (net.carries rule ≡ true → cell < length (now carried)) ⌝ }
-    ensures { λ r. ⌜ now (carried .exit) ≡ carried-on rule cell value (now (carried .entry)) ⌝ }
+pub fn carry(carrying: bool, cell: u32, value: f32, carried: &mut [f32])
+    requires { ⌜ (carrying ≡ true → cell < length (now carried)) ⌝ }
+    ensures { λ r. ⌜ now (carried .exit) ≡ cond carrying (set (now (carried .entry)) cell value) (now (carried .entry)) ⌝ }
 {
     let at = cell as usize;
-    if carries(rule) {
+    if carrying {
         carried[at] = value;
     }
 }
 
+// How long a step is.
+fn step_length(diagonal: bool) -> f32
+    ensures { λ r. ⌜ r ≡ length-of diagonal ⌝ }
+{
+    if diagonal {
+        return DIAGONAL;
+    }
+    STRAIGHT
+}
+
 // A cell takes a label, and waits.
 fn store(
-    search: Search,
+    carrying: bool,
     cell: u32,
     distance: f32,
     value: f32,
@@ -58,24 +73,28 @@ fn store(
     queue: &mut [u32],
     ring: Ring,
 ) -> Ring
-    requires { ⌜ Trying search cell (buffers (now distances) (now carried) (now marks) (now queue) ring) ⌝ }
-    ensures { λ r. ⌜ Does search (storing cell (labelled (search .rule) distance value))
+    requires { ⌜ Storing carrying cell (buffers (now distances) (now carried) (now marks) (now queue) ring) ⌝ }
+    ensures { λ r. ⌜ Stored carrying cell distance value
         (buffers (now (distances .entry)) (now (carried .entry)) (now (marks .entry)) (now (queue .entry)) ring)
         (buffers (now (distances .exit)) (now (carried .exit)) (now (marks .exit)) (now (queue .exit)) r) ⌝ }
 {
     let at = cell as usize;
     distances[at] = distance;
-    let rule = search.rule;
-    carry(rule, cell, value, carried);
+    carry(carrying, cell, value, carried);
     wait(cell, marks, queue, ring)
 }
 
-// Tries a cell over a step of this length.
+// Tries a cell over a step: its candidate is stored if it is below the cell's distance. The obstacles beside the
+// step are looked at last, since few candidates come so far.
 pub fn relax(
     search: Search,
+    formula: u8,
+    avoided: u8,
+    carrying: bool,
+    diagonal: bool,
+    obstacles: &[u8],
     times: &[f32],
     left: Left,
-    step: f32,
     cell: u32,
     distances: &mut [f32],
     carried: &mut [f32],
@@ -83,16 +102,22 @@ pub fn relax(
     queue: &mut [u32],
     ring: Ring,
 ) -> Ring
-    requires { ⌜ Relaxes search (now times) (left .cell) cell (buffers (now distances) (now carried) (now marks) (now queue) ring) ⌝ }
-    ensures { λ r. ⌜ Does search (relaxing (left-label search left) cell (entering search (now (times .entry)) (left .cell) step cell))
+    requires { ⌜ Entering search (numbers formula avoided carrying) (terrain (now obstacles) (now times)) (left .cell) cell (buffers (now distances) (now carried) (now marks) (now queue) ring) ⌝ }
+    ensures { λ r. ⌜ Does search (scanning (left-label search left) (steps-by search (terrain (now (obstacles .entry)) (now (times .entry))) diagonal (left .cell) (cell ∷ [])))
         (buffers (now (distances .entry)) (now (carried .entry)) (now (marks .entry)) (now (queue .entry)) ring)
         (buffers (now (distances .exit)) (now (carried .exit)) (now (marks .exit)) (now (queue .exit)) r) ⌝ }
 {
+    if !may_enter(avoided, obstacles, cell) {
+        return ring;
+    }
     let at = cell as usize;
-    let distance = candidate(search, times, left, step, cell);
+    let distance = candidate(formula, times, left, step_length(diagonal), cell);
     if distances[at] > distance {
+        if is_blocked(avoided, diagonal, search.size, obstacles, left.cell, cell) {
+            return ring;
+        }
         return store(
-            search,
+            carrying,
             cell,
             distance,
             left.value,

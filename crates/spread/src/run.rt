@@ -38,7 +38,11 @@ fn run(
             queue,
             waiting,
         );
-        waiting = took.ring;
+        let rest = took.ring;
+        waiting = Ring {
+            head: rest.head,
+            tail: rest.tail,
+        };
         takes += 1;
     }
     takes

@@ -1,117 +1,46 @@
-// The neighbours of a cell are tried: the straight ones, and the diagonal ones.
+// The neighbours of a cell are tried, the straight ones first.
 use crate::relax::Left;
 use crate::relax::relax;
 use crate::search::Search;
-use crate::steps::may_diagonal;
-use crate::steps::may_straight;
-use binary32::DIAGONAL;
-use binary32::STRAIGHT;
 use cells::Ring;
-ghost use mathlib.Core.List.{[], _∷_};
-ghost use Prim.Native.Nat.{_-_};
-ghost use lib.ListN.{take, drop};
-ghost use Rattle.spread.specs.Steps.{terrain, straight-steps, diagonal-steps};
+ghost use Rattle.spread.specs.Steps.{terrain, numbers};
 ghost use Rattle.spread.specs.Buffers.{buffers, scanning, Does};
-ghost use Rattle.spread.specs.Loop.{left-label, Entering, Scanning};
+ghost use Rattle.spread.specs.Loop.{left-label, listed-steps, Scanning};
 
-// Tries a straight neighbour, if the rule permits the step.
-fn try_straight(
+// Tries the listed cells before `count`: those before `straight` straight, the others diagonally.
+fn scan_listed(
     search: Search,
-    obstacles: &[u8],
-    times: &[f32],
-    left: Left,
-    cell: u32,
-    distances: &mut [f32],
-    carried: &mut [f32],
-    marks: &mut [u8],
-    queue: &mut [u32],
-    ring: Ring,
-) -> Ring
-    requires { ⌜ Entering search (terrain (now obstacles) (now times)) (left .cell) cell (buffers (now distances) (now carried) (now marks) (now queue) ring) ⌝ }
-    ensures { λ r. ⌜ Does search (scanning (left-label search left) (straight-steps search (terrain (now (obstacles .entry)) (now (times .entry))) (left .cell) (cell ∷ [])))
-        (buffers (now (distances .entry)) (now (carried .entry)) (now (marks .entry)) (now (queue .entry)) ring)
-        (buffers (now (distances .exit)) (now (carried .exit)) (now (marks .exit)) (now (queue .exit)) r) ⌝ }
-{
-    let rule = search.rule;
-    if may_straight(rule, obstacles, cell) {
-        return relax(
-            search,
-            times,
-            left,
-            STRAIGHT,
-            cell,
-            distances,
-            carried,
-            marks,
-            queue,
-            ring,
-        );
-    }
-    ring
-}
-
-// Tries a diagonal neighbour, if the rule permits the step.
-fn try_diagonal(
-    search: Search,
-    obstacles: &[u8],
-    times: &[f32],
-    left: Left,
-    cell: u32,
-    distances: &mut [f32],
-    carried: &mut [f32],
-    marks: &mut [u8],
-    queue: &mut [u32],
-    ring: Ring,
-) -> Ring
-    requires { ⌜ Entering search (terrain (now obstacles) (now times)) (left .cell) cell (buffers (now distances) (now carried) (now marks) (now queue) ring) ⌝ }
-    ensures { λ r. ⌜ Does search (scanning (left-label search left) (diagonal-steps search (terrain (now (obstacles .entry)) (now (times .entry))) (left .cell) (cell ∷ [])))
-        (buffers (now (distances .entry)) (now (carried .entry)) (now (marks .entry)) (now (queue .entry)) ring)
-        (buffers (now (distances .exit)) (now (carried .exit)) (now (marks .exit)) (now (queue .exit)) r) ⌝ }
-{
-    let rule = search.rule;
-    let size = search.size;
-    if may_diagonal(rule, size, obstacles, left.cell, cell) {
-        return relax(
-            search,
-            times,
-            left,
-            DIAGONAL,
-            cell,
-            distances,
-            carried,
-            marks,
-            queue,
-            ring,
-        );
-    }
-    ring
-}
-
-// Tries the straight neighbours: the listed cells before `end`.
-pub fn scan_straight(
-    search: Search,
+    formula: u8,
+    avoided: u8,
+    carrying: bool,
     obstacles: &[u8],
     times: &[f32],
     left: Left,
     cells: &[u32; 8],
-    end: usize,
+    straight: usize,
+    count: usize,
     distances: &mut [f32],
     carried: &mut [f32],
     marks: &mut [u8],
     queue: &mut [u32],
     ring: Ring,
 ) -> Ring
-    requires { ⌜ Scanning search (terrain (now obstacles) (now times)) (left .cell) (now cells) 0 end
+    requires { ⌜ Scanning search (numbers formula avoided carrying) (terrain (now obstacles) (now times)) (left .cell) (now cells) straight count
         (buffers (now distances) (now carried) (now marks) (now queue) ring) ⌝ }
-    ensures { λ r. ⌜ Does search (scanning (left-label search left) (straight-steps search (terrain (now (obstacles .entry)) (now (times .entry))) (left .cell) (take end (now (cells .entry)))))
+    ensures { λ r. ⌜ Does search (scanning (left-label search left) (listed-steps search (terrain (now (obstacles .entry)) (now (times .entry))) (left .cell) (now (cells .entry)) straight count))
         (buffers (now (distances .entry)) (now (carried .entry)) (now (marks .entry)) (now (queue .entry)) ring)
         (buffers (now (distances .exit)) (now (carried .exit)) (now (marks .exit)) (now (queue .exit)) r) ⌝ }
 {
     let mut waiting = ring;
     let mut k: usize = 0;
-    while k < end {
-        waiting = try_straight(
+    while k < count {
+        let diagonal = straight <= k;
+        waiting = relax(
             search,
+            formula,
+            avoided,
+            carrying,
+            diagonal,
             obstacles,
             times,
             left,
@@ -127,43 +56,64 @@ pub fn scan_straight(
     waiting
 }
 
-// Tries the diagonal neighbours: the listed cells from `start` to before `end`.
-pub fn scan_diagonal(
+// The same. Nearly all cells have all eight neighbours, and for these the bounds are constants to the compiler.
+pub fn scan(
     search: Search,
+    formula: u8,
+    avoided: u8,
+    carrying: bool,
     obstacles: &[u8],
     times: &[f32],
     left: Left,
     cells: &[u32; 8],
-    start: usize,
-    end: usize,
+    straight: usize,
+    count: usize,
     distances: &mut [f32],
     carried: &mut [f32],
     marks: &mut [u8],
     queue: &mut [u32],
     ring: Ring,
 ) -> Ring
-    requires { ⌜ Scanning search (terrain (now obstacles) (now times)) (left .cell) (now cells) start end
+    requires { ⌜ Scanning search (numbers formula avoided carrying) (terrain (now obstacles) (now times)) (left .cell) (now cells) straight count
         (buffers (now distances) (now carried) (now marks) (now queue) ring) ⌝ }
-    ensures { λ r. ⌜ Does search (scanning (left-label search left) (diagonal-steps search (terrain (now (obstacles .entry)) (now (times .entry))) (left .cell) (take (end - start) (drop start (now (cells .entry))))))
+    ensures { λ r. ⌜ Does search (scanning (left-label search left) (listed-steps search (terrain (now (obstacles .entry)) (now (times .entry))) (left .cell) (now (cells .entry)) straight count))
         (buffers (now (distances .entry)) (now (carried .entry)) (now (marks .entry)) (now (queue .entry)) ring)
         (buffers (now (distances .exit)) (now (carried .exit)) (now (marks .exit)) (now (queue .exit)) r) ⌝ }
 {
-    let mut waiting = ring;
-    let mut k = start;
-    while k < end {
-        waiting = try_diagonal(
+    if straight == 4 && count == 8 {
+        return scan_listed(
             search,
+            formula,
+            avoided,
+            carrying,
             obstacles,
             times,
             left,
-            cells[k],
+            cells,
+            4,
+            8,
             distances,
             carried,
             marks,
             queue,
-            waiting,
+            ring,
         );
-        k += 1;
     }
-    waiting
+    scan_listed(
+        search,
+        formula,
+        avoided,
+        carrying,
+        obstacles,
+        times,
+        left,
+        cells,
+        straight,
+        count,
+        distances,
+        carried,
+        marks,
+        queue,
+        ring,
+    )
 }

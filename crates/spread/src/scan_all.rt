@@ -1,66 +1,23 @@
-// All neighbours of a cell are tried, the straight ones first.
+// All neighbours of a cell are tried, by the rule.
+use crate::formulas::PLUS_HALF_SUM;
+use crate::formulas::PLUS_STEP;
+use crate::formulas::PLUS_TIME;
+use crate::formulas::PLUS_TIME_OR_QUARTER;
 use crate::relax::Left;
-use crate::scan::scan_diagonal;
-use crate::scan::scan_straight;
+use crate::scan::scan;
 use crate::search::Rule;
 use crate::search::Search;
+use crate::steps::BETWEEN_OBSTACLES;
+use crate::steps::NOTHING;
+use crate::steps::OBSTACLES;
 use cells::Ring;
-ghost use Rattle.spread.specs.Steps.{terrain};
+use rules::BarrierDiagonals;
+ghost use Rattle.spread.specs.Steps.{terrain, numbers-of};
 ghost use Rattle.spread.specs.Buffers.{buffers, scanning, Does};
 ghost use Rattle.spread.specs.Loop.{left-label, listed-steps, Scanning};
 
-// Tries all neighbours: the listed cells before `straight`, and those from there to before `count`.
-fn scan(
-    search: Search,
-    obstacles: &[u8],
-    times: &[f32],
-    left: Left,
-    cells: &[u32; 8],
-    straight: usize,
-    count: usize,
-    distances: &mut [f32],
-    carried: &mut [f32],
-    marks: &mut [u8],
-    queue: &mut [u32],
-    ring: Ring,
-) -> Ring
-    requires { ⌜ Scanning search (terrain (now obstacles) (now times)) (left .cell) (now cells) straight count
-        (buffers (now distances) (now carried) (now marks) (now queue) ring) ⌝ }
-    ensures { λ r. ⌜ Does search (scanning (left-label search left) (listed-steps search (terrain (now (obstacles .entry)) (now (times .entry))) (left .cell) (now (cells .entry)) straight count))
-        (buffers (now (distances .entry)) (now (carried .entry)) (now (marks .entry)) (now (queue .entry)) ring)
-        (buffers (now (distances .exit)) (now (carried .exit)) (now (marks .exit)) (now (queue .exit)) r) ⌝ }
-{
-    let waiting = scan_straight(
-        search,
-        obstacles,
-        times,
-        left,
-        cells,
-        straight,
-        distances,
-        carried,
-        marks,
-        queue,
-        ring,
-    );
-    scan_diagonal(
-        search,
-        obstacles,
-        times,
-        left,
-        cells,
-        straight,
-        count,
-        distances,
-        carried,
-        marks,
-        queue,
-        waiting,
-    )
-}
-
-// Tries all neighbours. The rule is matched here, once for each take, so that in each arm the compiler
-// sees a constant rule.
+// Tries all neighbours. The rule is matched here, once for each take, so that in each arm the loop has constants
+// for what the rule permits and how it adds.
 pub fn scan_by_rule(
     search: Search,
     obstacles: &[u8],
@@ -75,24 +32,37 @@ pub fn scan_by_rule(
     queue: &mut [u32],
     ring: Ring,
 ) -> Ring
-    requires { ⌜ Scanning search (terrain (now obstacles) (now times)) (left .cell) (now cells) straight count
+    requires { ⌜ Scanning search (numbers-of (search .rule)) (terrain (now obstacles) (now times)) (left .cell) (now cells) straight count
         (buffers (now distances) (now carried) (now marks) (now queue) ring) ⌝ }
     ensures { λ r. ⌜ Does search (scanning (left-label search left) (listed-steps search (terrain (now (obstacles .entry)) (now (times .entry))) (left .cell) (now (cells .entry)) straight count))
         (buffers (now (distances .entry)) (now (carried .entry)) (now (marks .entry)) (now (queue .entry)) ring)
         (buffers (now (distances .exit)) (now (carried .exit)) (now (marks .exit)) (now (queue .exit)) r) ⌝ }
 {
     let rule = search.rule;
-    let size = search.size;
-    let limit = search.limit;
     match rule {
-        Rule::Plain => {
-            let plain = Search {
-                rule: Rule::Plain,
-                size,
-                limit,
-            };
-            scan(
-                plain,
+        Rule::Plain => scan(
+            search,
+            PLUS_STEP,
+            NOTHING,
+            false,
+            obstacles,
+            times,
+            left,
+            cells,
+            straight,
+            count,
+            distances,
+            carried,
+            marks,
+            queue,
+            ring,
+        ),
+        Rule::Obstacles(diagonals) => match diagonals {
+            BarrierDiagonals::Include => scan(
+                search,
+                PLUS_STEP,
+                OBSTACLES,
+            false,
                 obstacles,
                 times,
                 left,
@@ -104,16 +74,12 @@ pub fn scan_by_rule(
                 marks,
                 queue,
                 ring,
-            )
-        }
-        Rule::Obstacles(diagonals) => {
-            let avoiding = Search {
-                rule: Rule::Obstacles(diagonals),
-                size,
-                limit,
-            };
-            scan(
-                avoiding,
+            ),
+            BarrierDiagonals::Exclude => scan(
+                search,
+                PLUS_STEP,
+                BETWEEN_OBSTACLES,
+            false,
                 obstacles,
                 times,
                 left,
@@ -125,112 +91,92 @@ pub fn scan_by_rule(
                 marks,
                 queue,
                 ring,
-            )
-        }
-        Rule::HalfSum => {
-            let travelling = Search {
-                rule: Rule::HalfSum,
-                size,
-                limit,
-            };
-            scan(
-                travelling,
-                obstacles,
-                times,
-                left,
-                cells,
-                straight,
-                count,
-                distances,
-                carried,
-                marks,
-                queue,
-                ring,
-            )
-        }
-        Rule::Closest => {
-            let closest = Search {
-                rule: Rule::Closest,
-                size,
-                limit,
-            };
-            scan(
-                closest,
-                obstacles,
-                times,
-                left,
-                cells,
-                straight,
-                count,
-                distances,
-                carried,
-                marks,
-                queue,
-                ring,
-            )
-        }
-        Rule::ByTime => {
-            let closest_by_time = Search {
-                rule: Rule::ByTime,
-                size,
-                limit,
-            };
-            scan(
-                closest_by_time,
-                obstacles,
-                times,
-                left,
-                cells,
-                straight,
-                count,
-                distances,
-                carried,
-                marks,
-                queue,
-                ring,
-            )
-        }
-        Rule::FromMaskCell(origin) => {
-            let from_mask_cell = Search {
-                rule: Rule::FromMaskCell(origin),
-                size,
-                limit,
-            };
-            scan(
-                from_mask_cell,
-                obstacles,
-                times,
-                left,
-                cells,
-                straight,
-                count,
-                distances,
-                carried,
-                marks,
-                queue,
-                ring,
-            )
-        }
-        Rule::FromAmount(origin) => {
-            let from_amount = Search {
-                rule: Rule::FromAmount(origin),
-                size,
-                limit,
-            };
-            scan(
-                from_amount,
-                obstacles,
-                times,
-                left,
-                cells,
-                straight,
-                count,
-                distances,
-                carried,
-                marks,
-                queue,
-                ring,
-            )
-        }
+            ),
+        },
+        Rule::HalfSum => scan(
+            search,
+            PLUS_HALF_SUM,
+            NOTHING,
+            false,
+            obstacles,
+            times,
+            left,
+            cells,
+            straight,
+            count,
+            distances,
+            carried,
+            marks,
+            queue,
+            ring,
+        ),
+        Rule::Closest => scan(
+            search,
+            PLUS_STEP,
+            NOTHING,
+            true,
+            obstacles,
+            times,
+            left,
+            cells,
+            straight,
+            count,
+            distances,
+            carried,
+            marks,
+            queue,
+            ring,
+        ),
+        Rule::ByTime => scan(
+            search,
+            PLUS_TIME,
+            NOTHING,
+            true,
+            obstacles,
+            times,
+            left,
+            cells,
+            straight,
+            count,
+            distances,
+            carried,
+            marks,
+            queue,
+            ring,
+        ),
+        Rule::FromMaskCell(_) => scan(
+            search,
+            PLUS_HALF_SUM,
+            NOTHING,
+            false,
+            obstacles,
+            times,
+            left,
+            cells,
+            straight,
+            count,
+            distances,
+            carried,
+            marks,
+            queue,
+            ring,
+        ),
+        Rule::FromAmount(_) => scan(
+            search,
+            PLUS_TIME_OR_QUARTER,
+            NOTHING,
+            false,
+            obstacles,
+            times,
+            left,
+            cells,
+            straight,
+            count,
+            distances,
+            carried,
+            marks,
+            queue,
+            ring,
+        ),
     }
 }

@@ -1,13 +1,13 @@
 // The steps that a rule permits.
-use crate::search::Rule;
 use rules::BarrierDiagonals;
 use rules::Size;
 ghost use mathlib.Core.Path.{_≡_};
-ghost use mathlib.Core.Bool.{true};
+ghost use mathlib.Core.Bool.{false};
 ghost use Prim.Native.Nat.{_<_};
+ghost use lib.Dec.{eqb};
 ghost use lib.ListN.{length};
 ghost use Rattle.rules.specs.Distances as distance;
-ghost use Rattle.spread.specs.Steps.{on, avoids, may-straight, may-diagonal, SaysFree, Pair, Crossed, Among, MayAsk};
+ghost use Rattle.spread.specs.Steps.{on, may-enter, blocked-by, SaysFree, Pair, Crossed, Among, MayAsk};
 
 // Whether a cell is no obstacle: its byte is 0.
 fn is_free(obstacles: &[u8], cell: u32) -> bool
@@ -40,46 +40,42 @@ fn is_between_obstacles(size: Size, obstacles: &[u8], from: u32, to: u32) -> boo
     !is_free(obstacles, other)
 }
 
-// Whether a diagonal step is refused for the cells beside it.
-fn is_blocked(diagonals: BarrierDiagonals, size: Size, obstacles: &[u8], from: u32, to: u32) -> bool
-    requires { ⌜ Among size (now obstacles) from to ⌝ }
-    ensures { λ r. ⌜ r ≡ distance.blocked diagonals (on size (now (obstacles .entry))) from to ⌝ }
+// What is avoided, by number: nothing; obstacles; and diagonal steps between two of them too. The loop has the
+// number as a constant.
+pub const NOTHING: u8 = 0;
+
+pub const OBSTACLES: u8 = 1;
+
+pub const BETWEEN_OBSTACLES: u8 = 2;
+
+// Whether a step may enter a cell.
+pub fn may_enter(avoided: u8, obstacles: &[u8], to: u32) -> bool
+    requires { ⌜ (eqb avoided 0 ≡ false → to < length (now obstacles)) ⌝ }
+    ensures { λ r. ⌜ ((size : Size) → r ≡ may-enter avoided (on size (now (obstacles .entry))) to) ⌝ }
 {
-    match diagonals {
-        BarrierDiagonals::Include => false,
-        BarrierDiagonals::Exclude => is_between_obstacles(size, obstacles, from, to),
+    if avoided == NOTHING {
+        return true;
     }
+    is_free(obstacles, to)
 }
 
-// Whether a straight step may enter a cell.
-pub fn may_straight(rule: Rule, obstacles: &[u8], to: u32) -> bool
-    requires { ⌜ (avoids rule ≡ true → to < length (now obstacles)) ⌝ }
-    ensures { λ r. ⌜ ((size : Size) → r ≡ may-straight rule (on size (now (obstacles .entry))) to) ⌝ }
+// Whether a step is refused for the cells beside it.
+pub fn is_blocked(
+    avoided: u8,
+    diagonal: bool,
+    size: Size,
+    obstacles: &[u8],
+    from: u32,
+    to: u32,
+) -> bool
+    requires { ⌜ MayAsk avoided size (now obstacles) from to ⌝ }
+    ensures { λ r. ⌜ r ≡ blocked-by avoided diagonal (on size (now (obstacles .entry))) from to ⌝ }
 {
-    match rule {
-        Rule::Plain => true,
-        Rule::Obstacles(_) => is_free(obstacles, to),
-        Rule::HalfSum => true,
-        Rule::Closest => true,
-        Rule::ByTime => true,
-        Rule::FromMaskCell(_) => true,
-        Rule::FromAmount(_) => true,
+    if avoided != BETWEEN_OBSTACLES {
+        return false;
     }
-}
-
-// Whether a diagonal step may go from one cell to another.
-pub fn may_diagonal(rule: Rule, size: Size, obstacles: &[u8], from: u32, to: u32) -> bool
-    requires { ⌜ MayAsk rule size (now obstacles) from to ⌝ }
-    ensures { λ r. ⌜ r ≡ may-diagonal rule (on size (now (obstacles .entry))) from to ⌝ }
-{
-    match rule {
-        Rule::Plain => true,
-        Rule::Obstacles(diagonals) => is_free(obstacles, to)
-            && !is_blocked(diagonals, size, obstacles, from, to),
-        Rule::HalfSum => true,
-        Rule::Closest => true,
-        Rule::ByTime => true,
-        Rule::FromMaskCell(_) => true,
-        Rule::FromAmount(_) => true,
+    if !diagonal {
+        return false;
     }
+    is_between_obstacles(size, obstacles, from, to)
 }

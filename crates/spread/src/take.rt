@@ -6,7 +6,7 @@ use crate::search::Rule;
 use crate::search::Search;
 use crate::waiting::take_first;
 use cells::Ring;
-use cells::neighbours_of;
+use cells::near;
 ghost use Rattle.spread.specs.Steps.{terrain};
 ghost use Rattle.spread.specs.Buffers.{buffers};
 ghost use Rattle.spread.specs.Loop.{CanLeave, LeftCell, Taking, TookCell};
@@ -60,15 +60,15 @@ pub fn take_cell(
     let rest = taken.ring;
     let rule = search.rule;
     let left = leave(rule, distances, carried, cell);
-    let near = neighbours_of(search.size, cell);
+    let around = near(search.size, cell);
     let waiting = scan_by_rule(
         search,
         obstacles,
         times,
         left,
-        &near.cells,
-        near.straight,
-        near.count,
+        &around.cells,
+        around.straight,
+        around.count,
         distances,
         carried,
         marks,

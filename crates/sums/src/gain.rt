@@ -74,7 +74,11 @@ pub fn run_gaining(
             queue,
             waiting,
         );
-        waiting = took.ring;
+        let rest = took.ring;
+        waiting = Ring {
+            head: rest.head,
+            tail: rest.tail,
+        };
         gain_cell(
             took.cell,
             took.distance,

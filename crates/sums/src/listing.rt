@@ -47,7 +47,11 @@ pub fn run_listing(
             queue,
             waiting,
         );
-        waiting = took.ring;
+        let rest = took.ring;
+        waiting = Ring {
+            head: rest.head,
+            tail: rest.tail,
+        };
         entries = list_cell(took.cell, met, listed, entries);
         takes += 1;
     }

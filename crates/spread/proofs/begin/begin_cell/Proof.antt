@@ -1,4 +1,5 @@
 -- `begin::begin_cell` meets its contract. Assumes nothing.
+use mathlib.Core.Path.{sym, _∙_}
 use Rattle.spread.proofs.Beginning.{value-inside, cell-begun}
 use borrow.Author.Needs.{needs}
 use Rattle.spread.proofs.begin.begin_cell.Statement.{statement}
@@ -13,8 +14,11 @@ mul-distances c = search needs
 slice-write-distances : tie.Need-slice-write-distances
 slice-write-distances c = search needs
 
+carries-requires : tie.Need-carries-requires
+carries-requires c κs = search needs
+
 carry-requires : tie.Need-carry-requires
-carry-requires c κs = value-inside (c .before .before .before .before .before .before .before .before .before .pre)
+carry-requires c κs = λ carrying. value-inside (c .before .before .before .before .before .before .before .before .before .before .pre) (sym (c .before .carries .ensures) ∙ carrying)
 
 begin-waiting-requires : tie.Need-begin-waiting-requires
 begin-waiting-requires c κs = search needs
@@ -32,7 +36,9 @@ same-length-4 : tie.Need-same-length-4
 same-length-4 c = search needs
 
 returns : tie.Need-returns
-returns c = cell-begun (c .before .before .before .before .before .before .before .before .before .before .before .before .before .before .before .before .before .before .before .pre) (c .before .before .before .before .before .before .before .before .before .before .before .first-label .result) (c .before .before .before .before .before .before .before .before .before .before .before .first-label .ensures) (c .before .before .before .before .before .before .before .before .before .carry .ensures) (c .before .before .before .before .begin-waiting .ensures)
+returns c =
+    cell-begun (c .before .before .before .before .before .before .before .before .before .before .before .before .before .before .before .before .before .before .before .before .pre) (c .before .before .before .before .before .before .before .before .before .before .before .before .first-label .result) (c .before .before .before .before .before .before .before .before .before .before .before .before .first-label .ensures)
+    (rw (c .before .before .before .before .before .before .before .before .before .before .before .carries .ensures) at (c .before .before .before .before .before .before .before .before .before .carry .ensures)) (c .before .before .before .before .begin-waiting .ensures)
 
 pub begin-cell-spec : {M : Type 1} → statement M
 begin-cell-spec =
@@ -41,6 +47,7 @@ begin-cell-spec =
     first-label-requires
     mul-distances
     slice-write-distances
+    carries-requires
     carry-requires
     begin-waiting-requires
     same-length

@@ -1,7 +1,8 @@
--- `scan_all::scan_by_rule` meets its contract: in each arm the search is the same with its rule written out. Assumes nothing.
-use Rattle.spread.specs.Steps.{terrain}
-use Rattle.spread.proofs.Taking.{scanning-as, scanned-as}
+-- `scan_all::scan_by_rule` meets its contract. Assumes nothing.
+use mathlib.Core.Path.{ap, _∙_}
 use borrow.Author.Needs.{needs}
+use Rattle.spread.specs.declared.search.Rule.the-variants.{Obstacles}
+use Rattle.spread.proofs.Scans.{scans-as}
 use Rattle.spread.proofs.scan_all.scan_by_rule.Statement.{statement}
 use Rattle.spread.proofs.scan_all.scan_by_rule.Tie as tie
 
@@ -9,43 +10,52 @@ enum-told : tie.Need-enum-told
 enum-told c = search needs
 
 scan-requires : tie.Need-scan-requires
-scan-requires c κs = scanning-as (c .before .before .before .before .enum-told .given .1) (c .before .before .before .before .before .before .before .before .before .before .before .before .before .pre)
+scan-requires c κs = scans-as (c .before .before .before .before .before .before .before .before .before .before .before .before .pre) (c .before .before .before .before .enum-told .given .1)
 
 enum-known-rule : tie.Need-enum-known-rule
 enum-known-rule c = search needs
 
-scan-requires-2 : tie.Need-scan-requires-2
-scan-requires-2 c κs = scanning-as (c .before .before .before .before .before .rule .given .1) (c .before .before .before .before .before .before .before .before .before .before .before .before .before .before .pre)
-
 enum-told-2 : tie.Need-enum-told-2
 enum-told-2 c = search needs
 
-scan-requires-3 : tie.Need-scan-requires-3
-scan-requires-3 c κs = scanning-as (c .before .before .before .before .enum-told2 .given .1) (c .before .before .before .before .before .before .before .before .before .before .before .before .before .pre)
+scan-requires-2 : tie.Need-scan-requires-2
+scan-requires-2 c κs = scans-as (c .before .before .before .before .before .before .before .before .before .before .before .before .before .before .before .pre) (c .before .before .before .before .before .before .before .rule .given .1 ∙ ap Obstacles (c .before .before .before .before .enum-told2 .given .1))
 
 enum-told-3 : tie.Need-enum-told-3
 enum-told-3 c = search needs
 
-scan-requires-4 : tie.Need-scan-requires-4
-scan-requires-4 c κs = scanning-as (c .before .before .before .before .enum-told3 .given .1) (c .before .before .before .before .before .before .before .before .before .before .before .before .before .pre)
+scan-requires-3 : tie.Need-scan-requires-3
+scan-requires-3 c κs = scans-as (c .before .before .before .before .before .before .before .before .before .before .before .before .before .before .before .pre) (c .before .before .before .before .before .before .before .rule .given .1 ∙ ap Obstacles (c .before .before .before .before .enum-told3 .given .1))
 
 enum-told-4 : tie.Need-enum-told-4
 enum-told-4 c = search needs
 
-scan-requires-5 : tie.Need-scan-requires-5
-scan-requires-5 c κs = scanning-as (c .before .before .before .before .enum-told4 .given .1) (c .before .before .before .before .before .before .before .before .before .before .before .before .before .pre)
+scan-requires-4 : tie.Need-scan-requires-4
+scan-requires-4 c κs = scans-as (c .before .before .before .before .before .before .before .before .before .before .before .before .pre) (c .before .before .before .before .enum-told4 .given .1)
 
-enum-known-rule-2 : tie.Need-enum-known-rule-2
-enum-known-rule-2 c = search needs
+enum-told-5 : tie.Need-enum-told-5
+enum-told-5 c = search needs
+
+scan-requires-5 : tie.Need-scan-requires-5
+scan-requires-5 c κs = scans-as (c .before .before .before .before .before .before .before .before .before .before .before .before .pre) (c .before .before .before .before .enum-told5 .given .1)
+
+enum-told-6 : tie.Need-enum-told-6
+enum-told-6 c = search needs
 
 scan-requires-6 : tie.Need-scan-requires-6
-scan-requires-6 c κs = scanning-as (c .before .before .before .before .before .rule2 .given .1) (c .before .before .before .before .before .before .before .before .before .before .before .before .before .before .pre)
+scan-requires-6 c κs = scans-as (c .before .before .before .before .before .before .before .before .before .before .before .before .pre) (c .before .before .before .before .enum-told6 .given .1)
 
-enum-known-rule-3 : tie.Need-enum-known-rule-3
-enum-known-rule-3 c = search needs
+enum-told-7 : tie.Need-enum-told-7
+enum-told-7 c = search needs
 
 scan-requires-7 : tie.Need-scan-requires-7
-scan-requires-7 c κs = scanning-as (c .before .before .before .before .before .rule3 .given .1) (c .before .before .before .before .before .before .before .before .before .before .before .before .before .before .pre)
+scan-requires-7 c κs = scans-as (c .before .before .before .before .before .before .before .before .before .before .before .before .pre) (c .before .before .before .before .enum-told7 .given .1)
+
+enum-told-8 : tie.Need-enum-told-8
+enum-told-8 c = search needs
+
+scan-requires-8 : tie.Need-scan-requires-8
+scan-requires-8 c κs = scans-as (c .before .before .before .before .before .before .before .before .before .before .before .before .pre) (c .before .before .before .before .enum-told8 .given .1)
 
 same-length : tie.Need-same-length
 same-length c = search needs
@@ -60,8 +70,7 @@ same-length-4 : tie.Need-same-length-4
 same-length-4 c = search needs
 
 returns : tie.Need-returns
-returns c = let start = c .before .before .before .before .before .before .before .before .before .before .before .before .before .before .before .before .before .before .before .before .before .before in
-    scanned-as (c .before .before .before .before .before .before .before .before .before .before .before .before .before .enum-told .given .1) (terrain (start .args .obstacles .now) (start .args .times .now)) (start .args .left) (start .args .cells .now) (start .args .straight) (start .args .count) (c .before .before .before .before .before .before .before .before .scan .ensures)
+returns c = c .before .before .before .before .before .before .before .before .scan .ensures
 
 same-length-5 : tie.Need-same-length-5
 same-length-5 c = search needs
@@ -76,8 +85,7 @@ same-length-8 : tie.Need-same-length-8
 same-length-8 c = search needs
 
 returns-2 : tie.Need-returns-2
-returns-2 c = let start = c .before .before .before .before .before .before .before .before .before .before .before .before .before .before .before .before .before .before .before .before .before .before .before in
-    scanned-as (c .before .before .before .before .before .before .before .before .before .before .before .before .before .before .rule .given .1) (terrain (start .args .obstacles .now) (start .args .times .now)) (start .args .left) (start .args .cells .now) (start .args .straight) (start .args .count) (c .before .before .before .before .before .before .before .before .scan2 .ensures)
+returns-2 c = c .before .before .before .before .before .before .before .before .scan2 .ensures
 
 same-length-9 : tie.Need-same-length-9
 same-length-9 c = search needs
@@ -92,8 +100,7 @@ same-length-12 : tie.Need-same-length-12
 same-length-12 c = search needs
 
 returns-3 : tie.Need-returns-3
-returns-3 c = let start = c .before .before .before .before .before .before .before .before .before .before .before .before .before .before .before .before .before .before .before .before .before .before in
-    scanned-as (c .before .before .before .before .before .before .before .before .before .before .before .before .before .enum-told2 .given .1) (terrain (start .args .obstacles .now) (start .args .times .now)) (start .args .left) (start .args .cells .now) (start .args .straight) (start .args .count) (c .before .before .before .before .before .before .before .before .scan3 .ensures)
+returns-3 c = c .before .before .before .before .before .before .before .before .scan3 .ensures
 
 same-length-13 : tie.Need-same-length-13
 same-length-13 c = search needs
@@ -108,8 +115,7 @@ same-length-16 : tie.Need-same-length-16
 same-length-16 c = search needs
 
 returns-4 : tie.Need-returns-4
-returns-4 c = let start = c .before .before .before .before .before .before .before .before .before .before .before .before .before .before .before .before .before .before .before .before .before .before in
-    scanned-as (c .before .before .before .before .before .before .before .before .before .before .before .before .before .enum-told3 .given .1) (terrain (start .args .obstacles .now) (start .args .times .now)) (start .args .left) (start .args .cells .now) (start .args .straight) (start .args .count) (c .before .before .before .before .before .before .before .before .scan4 .ensures)
+returns-4 c = c .before .before .before .before .before .before .before .before .scan4 .ensures
 
 same-length-17 : tie.Need-same-length-17
 same-length-17 c = search needs
@@ -124,8 +130,7 @@ same-length-20 : tie.Need-same-length-20
 same-length-20 c = search needs
 
 returns-5 : tie.Need-returns-5
-returns-5 c = let start = c .before .before .before .before .before .before .before .before .before .before .before .before .before .before .before .before .before .before .before .before .before .before in
-    scanned-as (c .before .before .before .before .before .before .before .before .before .before .before .before .before .enum-told4 .given .1) (terrain (start .args .obstacles .now) (start .args .times .now)) (start .args .left) (start .args .cells .now) (start .args .straight) (start .args .count) (c .before .before .before .before .before .before .before .before .scan5 .ensures)
+returns-5 c = c .before .before .before .before .before .before .before .before .scan5 .ensures
 
 same-length-21 : tie.Need-same-length-21
 same-length-21 c = search needs
@@ -140,8 +145,7 @@ same-length-24 : tie.Need-same-length-24
 same-length-24 c = search needs
 
 returns-6 : tie.Need-returns-6
-returns-6 c = let start = c .before .before .before .before .before .before .before .before .before .before .before .before .before .before .before .before .before .before .before .before .before .before .before in
-    scanned-as (c .before .before .before .before .before .before .before .before .before .before .before .before .before .before .rule2 .given .1) (terrain (start .args .obstacles .now) (start .args .times .now)) (start .args .left) (start .args .cells .now) (start .args .straight) (start .args .count) (c .before .before .before .before .before .before .before .before .scan6 .ensures)
+returns-6 c = c .before .before .before .before .before .before .before .before .scan6 .ensures
 
 same-length-25 : tie.Need-same-length-25
 same-length-25 c = search needs
@@ -156,8 +160,22 @@ same-length-28 : tie.Need-same-length-28
 same-length-28 c = search needs
 
 returns-7 : tie.Need-returns-7
-returns-7 c = let start = c .before .before .before .before .before .before .before .before .before .before .before .before .before .before .before .before .before .before .before .before .before .before .before in
-    scanned-as (c .before .before .before .before .before .before .before .before .before .before .before .before .before .before .rule3 .given .1) (terrain (start .args .obstacles .now) (start .args .times .now)) (start .args .left) (start .args .cells .now) (start .args .straight) (start .args .count) (c .before .before .before .before .before .before .before .before .scan7 .ensures)
+returns-7 c = c .before .before .before .before .before .before .before .before .scan7 .ensures
+
+same-length-29 : tie.Need-same-length-29
+same-length-29 c = search needs
+
+same-length-30 : tie.Need-same-length-30
+same-length-30 c = search needs
+
+same-length-31 : tie.Need-same-length-31
+same-length-31 c = search needs
+
+same-length-32 : tie.Need-same-length-32
+same-length-32 c = search needs
+
+returns-8 : tie.Need-returns-8
+returns-8 c = c .before .before .before .before .before .before .before .before .scan8 .ensures
 
 pub scan-by-rule-spec : {M : Type 1} → statement M
 scan-by-rule-spec =
@@ -166,17 +184,20 @@ scan-by-rule-spec =
     enum-told
     scan-requires
     enum-known-rule
-    scan-requires-2
     enum-told-2
-    scan-requires-3
+    scan-requires-2
     enum-told-3
-    scan-requires-4
+    scan-requires-3
     enum-told-4
+    scan-requires-4
+    enum-told-5
     scan-requires-5
-    enum-known-rule-2
+    enum-told-6
     scan-requires-6
-    enum-known-rule-3
+    enum-told-7
     scan-requires-7
+    enum-told-8
+    scan-requires-8
     same-length
     same-length-2
     same-length-3
@@ -211,4 +232,9 @@ scan-by-rule-spec =
     same-length-26
     same-length-27
     same-length-28
-    returns-7)
+    returns-7
+    same-length-29
+    same-length-30
+    same-length-31
+    same-length-32
+    returns-8)
