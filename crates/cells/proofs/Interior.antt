@@ -203,11 +203,16 @@ module _ (size : Size) (u : ℕ) (interior : Interior size u) where
   pub around-it : neighbours size u offsets ≡ around cols u
   unfolding neighbours
   around-it =
-      rw (to-right, to-left, to-below, to-above,
-      at-place (pos 1) (pos 1) refl refl (interior .below) (interior .right) (by-place .under-right),
-      at-place (negsuc 0) (pos 1) up refl row-over (interior .right) (by-place .over-right),
-      at-place (pos 1) (negsuc 0) refl back (interior .below) col-before (by-place .under-left),
-      at-place (negsuc 0) (negsuc 0) up back row-over col-before (by-place .over-left))
+      rw (
+        to-right,
+        to-left,
+        to-below,
+        to-above,
+        at-place (pos 1) (pos 1) refl refl (interior .below) (interior .right) (by-place .under-right),
+        at-place (negsuc 0) (pos 1) up refl row-over (interior .right) (by-place .over-right),
+        at-place (pos 1) (negsuc 0) refl back (interior .below) col-before (by-place .under-left),
+        at-place (negsuc 0) (negsuc 0) up back row-over col-before (by-place .over-left),
+      )
 
   -- The last of the eight, and the first, are cells of the grid.
   pub around-below : u + cols + 1 < count size

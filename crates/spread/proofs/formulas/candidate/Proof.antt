@@ -56,7 +56,7 @@ plus-time-requires-2 : tie.Need-plus-time-requires-2
 plus-time-requires-2 c κs = search needs
 
 returns-4 : tie.Need-returns-4
-returns-4 c size = 
+returns-4 c size =
     let n = c .before .before .before .before .before .before .before .before .args .formula in
     rw (ne-eqb n 0 (c .before .before .before .before .before .if1 .left), ne-eqb n 1 (c .before .before .before .before .if2 .left), ne-eqb n 2 (c .before .before .before .if3 .left))
     (rw (c .before .time-or-quarter .ensures) at (c .plus-time2 .ensures))

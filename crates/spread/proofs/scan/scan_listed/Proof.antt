@@ -39,7 +39,7 @@ loop-less : tie.Need-loop-less Inv-loop μ-loop
 loop-less c = let below = c .before .before .before .before .before .before .before .before .before .before .before .before .before .before .loop-test .taken in omega arith
 
 loop-again : tie.Need-loop-again Inv-loop μ-loop
-loop-again c = 
+loop-again c =
     let s = c .before .before .before .before .before .before .before .before .before .before .before .before .before .before .before .before .before .before .before .before .before .before in
     let at = c .before .before .before .before .before .before .before .before .before .before .before .before .before .before .before .loop in
     let below = c .before .before .before .before .before .before .before .before .before .before .before .before .before .before .loop-test .taken in
@@ -60,7 +60,7 @@ same-length-4 : tie.Need-same-length-4 Inv-loop μ-loop
 same-length-4 c = let s = c .before .before .before .before .before .before .before .before in same-queue (s .pre .good) (c .before .loop .inv .1 .good)
 
 returns : tie.Need-returns Inv-loop μ-loop
-returns c = 
+returns c =
     let s = c .before .before .before .before .before .before .before .before in
     let at = c .before .loop in
     let most = at .inv .0 in
