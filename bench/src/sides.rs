@@ -30,7 +30,7 @@ pub fn rust_call<'a>(rasters: &'a Rasters<f32>) -> Box<dyn Cells + 'a> {
 #[inline(never)]
 pub fn lent_call(case: &Case, lent: &mut Lent) -> u64 {
     let (mut takes, mut index) = (0, 0);
-    let status = exports::call(case, lent, &mut takes, &mut index);
+    let status = exports::call(case, lent.as_raw(), &mut takes, &mut index);
     assert_eq!(status, 0, "a grid of the benchmark is refused");
     takes
 }

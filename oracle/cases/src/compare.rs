@@ -1,32 +1,32 @@
 //! Two programs on the same cases. A case that the grid file can hold goes to both as a file, and what they write is
 //! compared byte for byte; a larger one goes to the oracle's builds by a call.
 use std::collections::BTreeMap;
-use std::io::Write;
-use std::path::PathBuf;
-use std::process::{Command, Stdio};
 
-use case::{Answer, Case, Search, draw, gridfile};
+use case::{Answer, Case, ONE_NAN, Search, draw, gridfile};
 use oracle::{Build, Reading, answer, answer_file};
 
-use crate::generate::{Sizes, damage, generate};
+use crate::damage::{damage, damaged};
+use crate::generate::{Sizes, generate};
+use crate::program::{self, TIME_LIMIT};
 use crate::random::Random;
 
 /// One of the two that are compared.
 pub enum Side {
     Oracle(Build),
     Library(fn(&Case) -> Answer),
-    /// A grid file goes in, an answer file comes out, in this process.
-    Files(fn(&[u8]) -> Vec<u8>),
-    Program(PathBuf),
+    /// A grid file goes in, an answer file comes out, in this process, or what was wrong with the call.
+    Files(fn(&[u8]) -> Result<Vec<u8>, String>),
+    /// A program's path, and words behind it that it is given.
+    Program(String),
 }
 
 impl Side {
-    /// `unchanged` and `counted` are the oracle's builds, run in this process; anything else is a program's path.
+    /// `unchanged` and `counted` are the oracle's builds, run in this process; anything else is a program.
     pub fn named(name: &str) -> Side {
         match name {
             "unchanged" => Side::Oracle(Build::Unchanged),
             "counted" => Side::Oracle(Build::Counted),
-            path => Side::Program(path.into()),
+            command => Side::Program(command.into()),
         }
     }
 
@@ -37,8 +37,8 @@ impl Side {
                 Ok(case) => answer(&case),
                 Err(gridfile::NotAFile) => Answer::Refused { number: 8, index: None },
             })),
-            Side::Files(answer) => Ok(answer(input)),
-            Side::Program(path) => run(path, input).map_err(|error| format!("{}: {error}", path.display())),
+            Side::Files(answer) => answer(input),
+            Side::Program(command) => program::run(command, input, TIME_LIMIT),
         }
     }
 
@@ -52,15 +52,6 @@ impl Side {
     }
 }
 
-fn run(path: &PathBuf, input: &[u8]) -> Result<Vec<u8>, std::io::Error> {
-    let mut program = Command::new(path).stdin(Stdio::piped()).stdout(Stdio::piped()).spawn()?;
-    let mut stdin = program.stdin.take().expect("standard input is a pipe");
-    // A program may stop reading early; what it answers is judged all the same.
-    let _ = stdin.write_all(input);
-    drop(stdin);
-    Ok(program.wait_with_output()?.stdout)
-}
-
 /// What a run of the comparison saw.
 #[derive(Default)]
 pub struct Seen {
@@ -71,9 +62,12 @@ pub struct Seen {
     /// By status: 0 accepted, else the refusal's number.
     pub statuses: BTreeMap<u8, u64>,
     pub takes: u128,
+    /// How many files of each kind of damage came to each status.
+    pub kinds: BTreeMap<&'static str, BTreeMap<u8, u64>>,
 }
 
-/// Runs both sides on the cases with these indices, up to the first difference, which is described.
+/// Runs both sides on the cases with these indices, some of them damaged as files, up to the first difference, which is
+/// described.
 pub fn compare(sides: &[Side; 2], search: Search, sizes: Sizes, seed: u64, count: u64) -> Result<Seen, String> {
     let mut seen = Seen::default();
     for index in 0..count {
@@ -104,8 +98,29 @@ pub fn compare(sides: &[Side; 2], search: Search, sizes: Sizes, seed: u64, count
     Ok(seen)
 }
 
+/// Runs both sides on damaged files only, up to the first difference, which is described with the least file that shows
+/// one.
+pub fn compare_damaged(sides: &[Side; 2], search: Search, seed: u64, count: u64) -> Result<Seen, String> {
+    let mut seen = Seen::default();
+    for index in 0..count {
+        let (kind, file) = damaged(search, seed, index);
+        seen.files += 1;
+        seen.damaged += 1;
+        let status = files(sides, &file, &mut seen).map_err(|what| {
+            format!(
+                "damaged file of search {}, seed {seed}, index {index}, {kind}\n{what}{}",
+                search.number(),
+                least(sides, &file)
+            )
+        })?;
+        *seen.kinds.entry(kind).or_default().entry(status).or_default() += 1;
+    }
+    Ok(seen)
+}
+
 impl Seen {
-    fn answer(&mut self, answer: &Answer) {
+    /// Counts an answer by its status, which is given.
+    fn answer(&mut self, answer: &Answer) -> u8 {
         let status = match answer {
             Answer::Refused { number, .. } => *number,
             Answer::Accepted { takes, .. } => {
@@ -114,25 +129,72 @@ impl Seen {
             }
         };
         *self.statuses.entry(status).or_default() += 1;
+        status
     }
 }
 
-fn files(sides: &[Side; 2], file: &[u8], seen: &mut Seen) -> Result<(), String> {
-    let [first, second] = [sides[0].file(file)?, sides[1].file(file)?];
-    let answers = [gridfile::read_answer(&first), gridfile::read_answer(&second)];
-    if let Some(answer) = &answers[0] {
-        seen.answer(answer);
-    }
-    if first == second {
-        return Ok(());
-    }
-    match (gridfile::read(file), &answers) {
-        (Ok(case), [Some(a), Some(b)]) => {
-            let what = draw::difference(&case, a, b).unwrap_or("the bytes, not what they say".into());
-            Err(described(&case, &what, [a, b]))
+/// The status that both sides give the file.
+fn files(sides: &[Side; 2], file: &[u8], seen: &mut Seen) -> Result<u8, String> {
+    let input = || format!("input  {}\n", hex(file));
+    let [first, second] = [sides[0].file(file), sides[1].file(file)];
+    let [first, second] = [first.map_err(|what| input() + &what)?, second.map_err(|what| input() + &what)?];
+    let case = gridfile::read(file).ok();
+    let [a, b] = [gridfile::read_answer(&first), gridfile::read_answer(&second)];
+    let both = || format!("{}first  {}\nsecond {}\n", input(), hex(&first), hex(&second));
+    match (&a, &b, &case) {
+        (Some(a), Some(b), Some(case)) if first != second => {
+            let what = draw::difference(case, a, b).unwrap_or("the bytes, not what they say".into());
+            Err(described(case, &what, [a, b]) + &both())
         }
-        _ => Err(format!("input  {}\nfirst  {}\nsecond {}\n", hex(file), hex(&first), hex(&second))),
+        (Some(answer), ..) if first == second && keeps_form(answer, &case) => Ok(seen.answer(answer)),
+        _ => Err(both()),
     }
+}
+
+/// Whether an answer to this case is of document 01's form; `None` is a file that is none. Each refusal has an index or
+/// not, an accepted grid has the case's number of cells and no NaN but the one.
+fn keeps_form(answer: &Answer, case: &Option<Case>) -> bool {
+    let cells = |case: &Case| (case.size().0 * case.size().1) as usize;
+    match (answer, case) {
+        (Answer::Refused { number: 8, index: None }, None) => true,
+        (Answer::Refused { number: 1..=5, index: None }, Some(_)) => true,
+        (Answer::Refused { number: 6 | 7, index: Some(index) }, Some(case)) => (*index as usize) < cells(case),
+        (Answer::Accepted { grid, .. }, Some(case)) => {
+            let other_nan = |&bits: &u32| f32::from_bits(bits).is_nan() && bits != ONE_NAN;
+            grid.len() == cells(case) && !grid.iter().any(other_nan)
+        }
+        _ => false,
+    }
+}
+
+/// Describes the least file that still tells the sides apart and is this one with bytes left out. Programs are not asked
+/// so often.
+fn least(sides: &[Side; 2], file: &[u8]) -> String {
+    if sides.iter().any(|side| matches!(side, Side::Program(_))) {
+        return String::new();
+    }
+    let agree = |file: &[u8]| files(sides, file, &mut Seen::default()).is_ok();
+    let mut least = file.to_vec();
+    let mut step = file.len();
+    while step > 0 {
+        least = without(least, step, agree);
+        step /= 2;
+    }
+    format!("least   {}\n", hex(&least))
+}
+
+/// The file without each stretch of so many bytes that no difference needs.
+fn without(mut file: Vec<u8>, step: usize, agree: impl Fn(&[u8]) -> bool) -> Vec<u8> {
+    let mut at = 0;
+    while at + step <= file.len() {
+        let shorter = [&file[..at], &file[at + step..]].concat();
+        if agree(&shorter) {
+            at += step;
+        } else {
+            file = shorter;
+        }
+    }
+    file
 }
 
 fn described(case: &Case, what: &str, [first, second]: [&Answer; 2]) -> String {

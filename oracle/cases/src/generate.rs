@@ -182,21 +182,3 @@ fn with_grid(case: &mut Case, which: usize, change: impl Change) {
         change.change(grids.into_iter().flatten().nth(which - bytes).expect("the grid is there"));
     }
 }
-
-/// A grid file with something wrong in it, or now and then nothing.
-pub fn damage(random: &mut Random, file: &mut Vec<u8>) {
-    let at = random.below(file.len());
-    match random.below(8) {
-        0 => file.truncate(at),
-        1 => file.push(random.pick(&[0, 1, 0x07, 0x10])),
-        2 => file[at] = random.bits() as u8,
-        3 => file[at] ^= 1 << random.below(8),
-        4 => file[..22].swap(random.below(22), 3 + random.below(3)),
-        5 => file[3 + random.below(3)] = random.pick(&[0, 1, 2, 3, 9, 255]),
-        6 => file[17 + random.below(8)] = random.pick(&[0x80, 1]),
-        _ => {
-            let again = file[at..].to_vec();
-            file.extend(again);
-        }
-    }
-}

@@ -10,10 +10,12 @@ use cases::{readings, stored, theorems};
 use oracle::{Build, Reading, answer};
 
 const USAGE: &str = "\
-cases compare FIRST SECOND [--search N] [--cases N] [--seed N] [--large]
+cases compare FIRST SECOND [--search N] [--cases N] [--seed N] [--large | --damaged]
     Feeds both the same cases of each search (or of one) and stops at the first difference. FIRST and SECOND are
-    `unchanged` or `counted`, the oracle's builds, or the path of a program that reads a grid file from standard input.
+    `unchanged` or `counted`, the oracle's builds, or a program that reads a grid file from standard input: its path,
+    and words behind it. A program has ten seconds for a file, ends with status 0 and writes nothing to standard error.
     --large: grids of 10,000 cells, which go to the oracle's builds only.
+    --damaged: damaged files only; counts what each kind of damage came to.
 cases show SEARCH INDEX [--seed N] [--large]
     Draws one of these cases with the oracle's answer, and prints it in the plain form and as a grid file.
 cases store FOLDER

@@ -1,7 +1,9 @@
 //! The options of the commands that compare, and the comparison that they ask for.
+use std::collections::BTreeMap;
+
 use case::Search;
 
-use crate::compare::{Seen, Side, compare};
+use crate::compare::{Seen, Side, compare, compare_damaged};
 use crate::generate::Sizes;
 
 /// Which cases a command is about.
@@ -10,16 +12,22 @@ pub struct Options {
     pub cases: u64,
     pub seed: u64,
     pub sizes: Sizes,
+    /// Damaged files only.
+    pub damaged: bool,
 }
 
 impl Options {
     pub fn read(mut words: &[&str]) -> Result<Options, String> {
-        let mut options = Options { search: None, cases: 1000, seed: 1, sizes: Sizes::File };
+        let mut options = Options { search: None, cases: 1000, seed: 1, sizes: Sizes::File, damaged: false };
         loop {
             words = match words {
                 [] => return Ok(options),
                 ["--large", rest @ ..] => {
                     options.sizes = Sizes::Large;
+                    rest
+                }
+                ["--damaged", rest @ ..] => {
+                    options.damaged = true;
                     rest
                 }
                 ["--search", word, rest @ ..] => {
@@ -48,16 +56,41 @@ pub fn read_search(word: &str) -> Result<Search, String> {
     word.parse().ok().and_then(Search::from_number).ok_or_else(|| format!("`{word}` is no search: they are 1 to 8"))
 }
 
-/// Compares the two sides that these names stand for, a line for each search.
+/// Compares the two sides that these names stand for, a line for each search, then one for each kind of damage.
 pub fn run_compare(names: [&str; 2], side: fn(&str) -> Side, options: &Options) -> Result<(), String> {
     let sides = names.map(side);
+    let (mut kinds, mut all) = (BTreeMap::new(), BTreeMap::new());
     for search in Search::ALL {
         if options.search.is_none_or(|only| only == search) {
-            let seen = compare(&sides, search, options.sizes, options.seed, options.cases)?;
+            let seen = if options.damaged {
+                compare_damaged(&sides, search, options.seed, options.cases)?
+            } else {
+                compare(&sides, search, options.sizes, options.seed, options.cases)?
+            };
             println!("search {}: {} and {} agree: {}", search.number(), names[0], names[1], summary(&seen));
+            add(&mut all, &seen.statuses);
+            for (&kind, statuses) in &seen.kinds {
+                add(kinds.entry(kind).or_default(), statuses);
+            }
         }
     }
+    kinds.iter().for_each(|(kind, statuses)| println!("{kind}: {}", counts(statuses)));
+    println!("together: {}", counts(&all));
     Ok(())
+}
+
+fn add(sums: &mut BTreeMap<u8, u64>, statuses: &BTreeMap<u8, u64>) {
+    for (status, count) in statuses {
+        *sums.entry(*status).or_default() += count;
+    }
+}
+
+fn counts(statuses: &BTreeMap<u8, u64>) -> String {
+    let word = |(status, count): (&u8, &u64)| match status {
+        0 => format!("{count} accepted"),
+        number => format!("{count} refused by {number}"),
+    };
+    statuses.iter().map(word).collect::<Vec<_>>().join(", ")
 }
 
 fn summary(seen: &Seen) -> String {
@@ -65,9 +98,6 @@ fn summary(seen: &Seen) -> String {
     if seen.not_fed > 0 {
         parts.push(format!("{} NOT FED, as no grid file holds them", seen.not_fed));
     }
-    parts.extend(seen.statuses.iter().map(|(status, count)| match status {
-        0 => format!("{count} accepted with {} takes", seen.takes),
-        number => format!("{count} refused by {number}"),
-    }));
+    parts.extend([counts(&seen.statuses), format!("{} takes", seen.takes)]);
     parts.join(", ")
 }

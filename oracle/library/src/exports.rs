@@ -54,6 +54,27 @@ impl Lent {
     }
 }
 
+/// The answer file to a grid file, through the export `haul_answer`. The output stands between two stretches of dirt.
+/// Whatever the call changes besides the answer's own bytes is told.
+pub fn answer_file(input: &[u8]) -> Result<Vec<u8>, String> {
+    const BESIDE: usize = 64;
+    let lent = input.to_vec();
+    let mut output = [DIRT; BESIDE + raw::ANSWER_MAX + BESIDE];
+    let length = raw::answer(&lent, &mut output[BESIDE..BESIDE + raw::ANSWER_MAX]) as usize;
+    if length > raw::ANSWER_MAX {
+        return Err(format!("haul_answer tells a length of {length}"));
+    }
+    let (before, rest) = output.split_at(BESIDE);
+    let (answer, behind) = rest.split_at(length);
+    if before.iter().chain(behind).any(|&byte| byte != DIRT) {
+        return Err("haul_answer writes beside its answer".into());
+    }
+    if lent != input {
+        return Err("haul_answer changes its input".into());
+    }
+    Ok(answer.to_vec())
+}
+
 /// The answer to a case, with slices of the right lengths.
 pub fn answer(case: &Case) -> Answer {
     let (rows, cols) = case.size();
@@ -68,7 +89,7 @@ pub fn answer(case: &Case) -> Answer {
 pub fn answer_in(case: &Case, lent: &mut Lent) -> Answer {
     let before = lent.bits();
     let (mut takes, mut index) = NOT_WRITTEN;
-    let number = call(case, lent, &mut takes, &mut index);
+    let number = call(case, lent.as_raw(), &mut takes, &mut index);
     let holds = |fact: bool, promise: &str| assert!(fact, "{promise}; status {number}, {}", draw::case(case));
     let (grid, buffers) = lent.bits();
     if matches!(number, 0 | 7) {
@@ -89,12 +110,11 @@ pub fn answer_in(case: &Case, lent: &mut Lent) -> Answer {
     }
 }
 
-/// The case's export as it is: gives the status, 0 or the refusal's number.
-pub fn call(case: &Case, lent: &mut Lent, takes: &mut u64, index: &mut u32) -> u32 {
+/// The export of the case's search, called with these slices: gives the status, 0 or the refusal's number.
+pub fn call(case: &Case, lent: raw::Lent, takes: &mut u64, index: &mut u32) -> u32 {
     let (targets, obstacles) = (|| view(&case.targets), || view(&case.obstacles));
     let (times, values) = (|| view(&case.times), || view(&case.values));
     let limit = case.limit;
-    let lent = lent.as_raw();
     match case.search {
         DistancesUpTo => raw::distances_up_to(targets(), case.cell_size, limit, lent, takes, index),
         DistanceWithObstacles => {

@@ -6,14 +6,14 @@ use cases::compare::Side;
 use cases::options::{Options, run_compare};
 
 const USAGE: &str = "\
-haul-cases FIRST SECOND [--search N] [--cases N] [--seed N]
+haul-cases FIRST SECOND [--search N] [--cases N] [--seed N] [--damaged]
     FIRST and SECOND are `haul_answer`, or what `cases compare` takes. Without --seed it takes one from the clock, and
     prints it.
 ";
 
 fn side(name: &str) -> Side {
     match name {
-        "haul_answer" => Side::Files(haul::answer_file),
+        "haul_answer" => Side::Files(library::exports::answer_file),
         other => Side::named(other),
     }
 }
