@@ -1,8 +1,11 @@
 //! Grid files with something wrong in them. Each kind of damage is a small function, on the file's bytes or on its
 //! fields; a file may still be a sound one afterwards, which says something else.
+// All kinds of damage have one of two types, so that they can stand in a table.
+#[allow(clippy::ptr_arg)]
 mod bytes;
 mod drawn;
 mod field;
+#[allow(clippy::ptr_arg)]
 mod fields;
 
 use case::{Search, gridfile};

@@ -56,8 +56,9 @@ fn over_budget(case: &Case) -> bool {
     let mut distance = 0.0;
     for pair in times.cells.windows(2) {
         distance += 0.5 * (pair[0] + pair[1]);
-        if !(distance < f32::INFINITY) || distance > case.limit {
-            return distance < f32::INFINITY;
+        let entered = distance < f32::INFINITY;
+        if !entered || distance > case.limit {
+            return entered;
         }
     }
     false

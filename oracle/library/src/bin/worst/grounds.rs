@@ -9,7 +9,10 @@ pub struct Ground {
     pub start: usize,
 }
 
-pub const FAMILIES: [(&str, fn(usize) -> Ground); 7] = [
+/// A ground for each side.
+pub type Family = fn(usize) -> Ground;
+
+pub const FAMILIES: [(&str, Family); 7] = [
     ("even", even),
     ("zero", zero),
     ("drawn", drawn),
