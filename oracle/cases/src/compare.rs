@@ -59,12 +59,15 @@ pub struct Seen {
     pub damaged: u64,
     pub calls: u64,
     pub not_fed: u64,
-    /// By status: 0 accepted, else the refusal's number.
-    pub statuses: BTreeMap<u8, u64>,
+    /// Of cases that were not damaged, which keep to the refusals of their search.
+    pub statuses: Statuses,
+    /// Of damaged files, by the kind of damage, which may have changed the search too.
+    pub kinds: BTreeMap<&'static str, Statuses>,
     pub takes: u128,
-    /// How many files of each kind of damage came to each status.
-    pub kinds: BTreeMap<&'static str, BTreeMap<u8, u64>>,
 }
+
+/// How many answers had each status: 0 accepted, else the refusal's number.
+pub type Statuses = BTreeMap<u8, u64>;
 
 /// Runs both sides on the cases with these indices, some of them damaged as files, up to the first difference, which is
 /// described.
@@ -76,17 +79,14 @@ pub fn compare(sides: &[Side; 2], search: Search, sizes: Sizes, seed: u64, count
         match gridfile::write(&case) {
             Some(mut file) => {
                 let random = &mut Random::new(!seed, index);
-                if random.chance(12) {
-                    damage(random, &mut file);
-                    seen.damaged += 1;
-                }
+                let kind = random.chance(12).then(|| damage(random, &mut file));
                 seen.files += 1;
-                files(sides, &file, &mut seen).map_err(|what| format!("{place}\n{what}"))?;
+                seen.answer(kind, &files(sides, &file).map_err(|what| format!("{place}\n{what}"))?);
             }
             None => match (sides[0].call(&case), sides[1].call(&case)) {
                 (Some(first), Some(second)) => {
                     seen.calls += 1;
-                    seen.answer(&first);
+                    seen.answer(None, &first);
                     if let Some(what) = draw::difference(&case, &first, &second) {
                         return Err(format!("{place}\n{}", described(&case, &what, [&first, &second])));
                     }
@@ -105,22 +105,20 @@ pub fn compare_damaged(sides: &[Side; 2], search: Search, seed: u64, count: u64)
     for index in 0..count {
         let (kind, file) = damaged(search, seed, index);
         seen.files += 1;
-        seen.damaged += 1;
-        let status = files(sides, &file, &mut seen).map_err(|what| {
+        let answer = files(sides, &file).map_err(|what| {
+            let number = search.number();
             format!(
-                "damaged file of search {}, seed {seed}, index {index}, {kind}\n{what}{}",
-                search.number(),
+                "damaged file of search {number}, seed {seed}, index {index}, {kind}\n{what}{}",
                 least(sides, &file)
             )
         })?;
-        *seen.kinds.entry(kind).or_default().entry(status).or_default() += 1;
+        seen.answer(Some(kind), &answer);
     }
     Ok(seen)
 }
 
 impl Seen {
-    /// Counts an answer by its status, which is given.
-    fn answer(&mut self, answer: &Answer) -> u8 {
+    fn answer(&mut self, kind: Option<&'static str>, answer: &Answer) {
         let status = match answer {
             Answer::Refused { number, .. } => *number,
             Answer::Accepted { takes, .. } => {
@@ -128,25 +126,42 @@ impl Seen {
                 0
             }
         };
-        *self.statuses.entry(status).or_default() += 1;
-        status
+        let statuses = match kind {
+            None => &mut self.statuses,
+            Some(kind) => self.kinds.entry(kind).or_default(),
+        };
+        *statuses.entry(status).or_default() += 1;
+        self.damaged += u64::from(kind.is_some());
+    }
+
+    /// Of all cases, damaged or not.
+    pub fn all(&self) -> Statuses {
+        let mut all = self.statuses.clone();
+        self.kinds.values().for_each(|statuses| add(&mut all, statuses));
+        all
     }
 }
 
-/// The status that both sides give the file.
-fn files(sides: &[Side; 2], file: &[u8], seen: &mut Seen) -> Result<u8, String> {
+pub fn add(sums: &mut Statuses, statuses: &Statuses) {
+    for (status, count) in statuses {
+        *sums.entry(*status).or_default() += count;
+    }
+}
+
+/// The answer that both sides give the file.
+fn files(sides: &[Side; 2], file: &[u8]) -> Result<Answer, String> {
     let input = || format!("input  {}\n", hex(file));
     let [first, second] = [sides[0].file(file), sides[1].file(file)];
     let [first, second] = [first.map_err(|what| input() + &what)?, second.map_err(|what| input() + &what)?];
     let case = gridfile::read(file).ok();
     let [a, b] = [gridfile::read_answer(&first), gridfile::read_answer(&second)];
     let both = || format!("{}first  {}\nsecond {}\n", input(), hex(&first), hex(&second));
-    match (&a, &b, &case) {
+    match (a, b, &case) {
         (Some(a), Some(b), Some(case)) if first != second => {
-            let what = draw::difference(case, a, b).unwrap_or("the bytes, not what they say".into());
-            Err(described(case, &what, [a, b]) + &both())
+            let what = draw::difference(case, &a, &b).unwrap_or("the bytes, not what they say".into());
+            Err(described(case, &what, [&a, &b]) + &both())
         }
-        (Some(answer), ..) if first == second && keeps_form(answer, &case) => Ok(seen.answer(answer)),
+        (Some(answer), ..) if first == second && keeps_form(&answer, &case) => Ok(answer),
         _ => Err(both()),
     }
 }
@@ -173,7 +188,7 @@ fn least(sides: &[Side; 2], file: &[u8]) -> String {
     if sides.iter().any(|side| matches!(side, Side::Program(_))) {
         return String::new();
     }
-    let agree = |file: &[u8]| files(sides, file, &mut Seen::default()).is_ok();
+    let agree = |file: &[u8]| files(sides, file).is_ok();
     let mut least = file.to_vec();
     let mut step = file.len();
     while step > 0 {

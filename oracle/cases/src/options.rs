@@ -3,7 +3,7 @@ use std::collections::BTreeMap;
 
 use case::Search;
 
-use crate::compare::{Seen, Side, compare, compare_damaged};
+use crate::compare::{Seen, Side, Statuses, add, compare, compare_damaged};
 use crate::generate::Sizes;
 
 /// Which cases a command is about.
@@ -56,10 +56,11 @@ pub fn read_search(word: &str) -> Result<Search, String> {
     word.parse().ok().and_then(Search::from_number).ok_or_else(|| format!("`{word}` is no search: they are 1 to 8"))
 }
 
-/// Compares the two sides that these names stand for, a line for each search, then one for each kind of damage.
+/// Compares the two sides that these names stand for, a line for each search, then, of damaged files, one for each
+/// kind of damage.
 pub fn run_compare(names: [&str; 2], side: fn(&str) -> Side, options: &Options) -> Result<(), String> {
     let sides = names.map(side);
-    let (mut kinds, mut all) = (BTreeMap::new(), BTreeMap::new());
+    let (mut kinds, mut all) = (BTreeMap::new(), Statuses::new());
     for search in Search::ALL {
         if options.search.is_none_or(|only| only == search) {
             let seen = if options.damaged {
@@ -68,24 +69,20 @@ pub fn run_compare(names: [&str; 2], side: fn(&str) -> Side, options: &Options) 
                 compare(&sides, search, options.sizes, options.seed, options.cases)?
             };
             println!("search {}: {} and {} agree: {}", search.number(), names[0], names[1], summary(&seen));
-            add(&mut all, &seen.statuses);
+            add(&mut all, &seen.all());
             for (&kind, statuses) in &seen.kinds {
                 add(kinds.entry(kind).or_default(), statuses);
             }
         }
     }
-    kinds.iter().for_each(|(kind, statuses)| println!("{kind}: {}", counts(statuses)));
+    if options.damaged {
+        kinds.iter().for_each(|(kind, statuses)| println!("{kind}: {}", counts(statuses)));
+    }
     println!("together: {}", counts(&all));
     Ok(())
 }
 
-fn add(sums: &mut BTreeMap<u8, u64>, statuses: &BTreeMap<u8, u64>) {
-    for (status, count) in statuses {
-        *sums.entry(*status).or_default() += count;
-    }
-}
-
-fn counts(statuses: &BTreeMap<u8, u64>) -> String {
+fn counts(statuses: &Statuses) -> String {
     let word = |(status, count): (&u8, &u64)| match status {
         0 => format!("{count} accepted"),
         number => format!("{count} refused by {number}"),
@@ -98,6 +95,6 @@ fn summary(seen: &Seen) -> String {
     if seen.not_fed > 0 {
         parts.push(format!("{} NOT FED, as no grid file holds them", seen.not_fed));
     }
-    parts.extend([counts(&seen.statuses), format!("{} takes", seen.takes)]);
+    parts.extend([counts(&seen.all()), format!("{} takes", seen.takes)]);
     parts.join(", ")
 }

@@ -13,15 +13,15 @@ const ORACLE: Side = Side::Oracle(Build::Counted);
 #[test]
 fn every_status_comes_up() {
     for search in Search::ALL {
-        let seen = compare_damaged(&[ORACLE, ORACLE], search, 1, 2_000).unwrap_or_else(|what| panic!("{what}"));
+        let seen = compare_damaged(&[ORACLE, ORACLE], search, 1, 2_000).unwrap_or_else(|what| panic!("{what}")).all();
         let mut statuses = BTreeSet::from([0, 1, 3, 8]);
         statuses.extend(search.has_cell_size().then_some(4));
         statuses.extend(search.has_limit().then_some(5));
         statuses.extend(search.has_times().then_some(6));
         statuses.extend((search == Search::SumWithinTravelDistance).then_some(7));
-        let missed: Vec<_> = statuses.iter().filter(|status| !seen.statuses.contains_key(status)).collect();
+        let missed: Vec<_> = statuses.iter().filter(|status| !seen.contains_key(status)).collect();
         assert!(missed.is_empty(), "search {} never gave {missed:?}", search.number());
-        assert!(seen.statuses[&8] < 1_700, "search {}: {:?}", search.number(), seen.statuses);
+        assert!(seen[&8] < 1_700, "search {}: {seen:?}", search.number());
     }
 }
 

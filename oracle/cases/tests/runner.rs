@@ -24,8 +24,7 @@ fn possible(search: Search) -> BTreeSet<u8> {
 fn the_builds_agree_and_every_status_comes_up() {
     for search in Search::ALL {
         let seen = compare(&SIDES, search, Sizes::File, 7, 2_000).unwrap_or_else(|what| panic!("{what}"));
-        let missed: Vec<_> =
-            possible(search).into_iter().filter(|status| !seen.statuses.contains_key(status)).collect();
+        let missed: Vec<_> = possible(search).into_iter().filter(|status| !seen.all().contains_key(status)).collect();
         assert!(missed.is_empty(), "search {} never gave {missed:?}", search.number());
         assert_eq!(seen.files + seen.calls, 2_000);
     }
