@@ -8,7 +8,10 @@ const PRINTED: &str = include_str!("../../least.txt");
 #[test]
 fn the_readme_has_the_programs_as_they_are() {
     assert!(README.contains(&format!("\n```c\n{LEAST_C}```\n")), "the C program differs from bindings/c/least.c");
-    assert!(README.contains(&format!("\n```rust\n{LEAST_RUST}```\n")), "the Rust program differs from examples/least.rs");
+    assert!(
+        README.contains(&format!("\n```rust\n{LEAST_RUST}```\n")),
+        "the Rust program differs from examples/least.rs"
+    );
     assert!(README.contains(&format!("\n```\n{PRINTED}```\n")), "what they print differs from bindings/least.txt");
 }
 

@@ -39,7 +39,7 @@ impl Lent {
         }
     }
 
-    fn as_raw(&mut self) -> raw::Lent<'_> {
+    pub fn as_raw(&mut self) -> raw::Lent<'_> {
         let Lent { answer, distances, marks, listed, adjacent, added, queue } = self;
         raw::Lent { answer, distances, marks, listed, adjacent, added, queue }
     }
