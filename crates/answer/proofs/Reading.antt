@@ -1,4 +1,4 @@
--- A program that has read 12,322 bytes of a file answers as if it had read all of it. Assumes nothing.
+-- A program that has read one byte more of a file than the longest has answers as if it had read all of it. Assumes nothing.
 use mathlib.Core.Path.{_≡_, sym, ap, _∙_}
 use mathlib.Core.List.{List}
 use Prim.Native.Nat.{ℕ, suc, _<_}
@@ -12,7 +12,8 @@ use Rattle.gridfile.specs.declared.request.Parsed.{Parsed}
 use Rattle.gridfile.specs.Contents.{written-out}
 use Rattle.gridfile.specs.Answers.{answer-file}
 use Rattle.gridfile.proofs.Choices.{by-test}
-use Rattle.gridfile.proofs.LongFiles.{longest-file, too-long}
+pub use Rattle.gridfile.proofs.LongFiles.{longest-file}
+use Rattle.gridfile.proofs.LongFiles.{too-long}
 use Rattle.answer.specs.Answering.{outcome-of, answer-to}
 
 -- A file that is too long is refused, whatever is in it.

@@ -14,6 +14,7 @@ use Rattle.calls.specs.declared.answer.Answer.the-variants.{Accepted, Refused}
 use Rattle.calls.specs.declared.answer.Refusal.{Refusal}
 use Rattle.calls.specs.Answer.{refusal-number, refusal, takes}
 use Rattle.calls.specs.Promise.{Slice, Promised}
+use Rattle.calls.proofs.Promises.{takes-one, refusal-no-takes}
 use Rattle.gridfile.specs.declared.request.Request.{Request}
 use Rattle.gridfile.specs.declared.request.Parsed.{Parsed}
 use Rattle.gridfile.specs.declared.request.Parsed.the-variants.{Good}
@@ -23,27 +24,21 @@ use Rattle.gridfile.specs.Answers.{Written, number-field, grid-field, answer-fi
 use Rattle.gridfile.proofs.Stores.{number-field-long, grid-field-long}
 use Rattle.answer.specs.Answering.{outcome-of, longest, Sent, Answered}
 use Rattle.answer.specs.Lending.{stated, Told, found}
-use Rattle.answer.proofs.Lengths.{front}
+use Rattle.answer.proofs.Lengths.{prefix-is}
 
 -- ---- the answer of a search is its outcome
 
 same-refusal : (r s : rules.Refusal) → refusal r ≡ refusal s → r ≡ s
 same-refusal r s e = cc
 
-same-takes : (t u : ℕ) → takes t ≡ takes u → t ≡ u
-same-takes t u e = cc
-
-no-takes : (r : rules.Refusal) (t : ℕ) → refusal r ≡ takes t → ⊥
-no-takes r t e = let never : _≡_ {A = ℕ} 0 1 = cc in omega arith
-
 -- A call that keeps its promise answers, with its answer slice, what its outcome is. Proof: it says the outcome's refusal or takes, which
 -- decides the case; and an accepted call's answer slice is the outcome's grid.
 pub stated-is : (outcome : Outcome) (r : Answer) {answer : Slice Float} {marks queue : Slice ℕ} → Promised outcome r answer marks queue → stated r (answer .after) ≡ outcome
 stated-is (refused s) (Refused x) p = ap refused (same-refusal (refusal-number x) s (p .says))
-stated-is (refused s) (Accepted counts) p = absurd (no-takes s (counts .takes) (sym (p .says)))
-stated-is (accepted t grid) (Refused x) p = absurd (no-takes (refusal-number x) t (p .says))
+stated-is (refused s) (Accepted counts) p = absurd (refusal-no-takes s (counts .takes) (sym (p .says)))
+stated-is (accepted t grid) (Refused x) p = absurd (refusal-no-takes (refusal-number x) t (p .says))
 stated-is (accepted t grid) (Accepted counts) {answer} p =
-    ap (λ (u : ℕ). accepted u (answer .after)) (same-takes (counts .takes) t (p .says)) ∙ ap (accepted t) (p .answer-left)
+    ap (λ (u : ℕ). accepted u (answer .after)) (takes-one (counts .takes) t (p .says)) ∙ ap (accepted t) (p .answer-left)
 
 -- ---- no answer is longer than the longest
 
@@ -89,7 +84,7 @@ module _ {before after : List ℕ} {count : ℕ} where
   pub of-front :
       (r : Answer) {meant : Outcome} (n : ℕ) (cells rest : List Float) → length cells ≡ n → stated r cells ≡ meant
       → Told (stated r (take n (cells ++ rest))) before after count → Told meant before after count
-  of-front r n cells rest long is sent = subst (λ (o : Outcome). Told o before after count) (ap (stated r) (front n cells rest long) ∙ is) sent
+  of-front r n cells rest long is sent = subst (λ (o : Outcome). Told o before after count) (ap (stated r) (prefix-is n cells rest long) ∙ is) sent
 
   -- On the grids that stand in the file.
   pub on-grids :

@@ -17,20 +17,20 @@ use Rattle.gridfile.specs.Contents.{Asked, refuses, asks, asked}
 use Rattle.gridfile.specs.Answers.{Written, answer-file}
 
 -- The program lends the answer and the work buffers of a search, so many slices, at the length n each, and the queue at n + 1.
-abbrev pub room : ℕ → Size → Lent
-room slices size = lent (replicate slices (count size)) (suc (count size))
+abbrev pub lent-for : ℕ → Size → Lent
+lent-for slices size = lent (replicate slices (count size)) (suc (count size))
 
 -- The outcome of the search with this number, 1 to 8. Every grid of a file has the file's one size.
 unfoldable pub searched : ℕ → BarrierDiagonals → Bool → Size → Spacing → (targets obstacles : List ℕ) → (times values : List Float) → Outcome
 searched search diagonals adjacent size spacing targets obstacles times values =
-    cond (eqb search 1) (outcome-1 (grid size targets) spacing (room 2 size))
-    (cond (eqb search 2) (outcome-2 (grid size targets) (grid size obstacles) spacing diagonals (room 2 size))
-    (cond (eqb search 3) (outcome-3 (grid size targets) (grid size times) (spacing .limit) (room 2 size))
-    (cond (eqb search 4) (outcome-4 (grid size targets) (grid size values) (room 3 size))
-    (cond (eqb search 5) (outcome-5 (grid size targets) (grid size times) (grid size values) (room 3 size))
-    (cond (eqb search 6) (outcome-6 (grid size targets) (grid size times) (grid size values) (spacing .limit) (room 3 size))
-    (cond (eqb search 7) (outcome-7 (grid size targets) (grid size times) (grid size values) (spacing .limit) adjacent (room 5 size))
-    (outcome-8 (grid size times) (grid size values) (spacing .limit) (room 4 size))))))))
+    cond (eqb search 1) (outcome-1 (grid size targets) spacing (lent-for 2 size))
+    (cond (eqb search 2) (outcome-2 (grid size targets) (grid size obstacles) spacing diagonals (lent-for 2 size))
+    (cond (eqb search 3) (outcome-3 (grid size targets) (grid size times) (spacing .limit) (lent-for 2 size))
+    (cond (eqb search 4) (outcome-4 (grid size targets) (grid size values) (lent-for 3 size))
+    (cond (eqb search 5) (outcome-5 (grid size targets) (grid size times) (grid size values) (lent-for 3 size))
+    (cond (eqb search 6) (outcome-6 (grid size targets) (grid size times) (grid size values) (spacing .limit) (lent-for 3 size))
+    (cond (eqb search 7) (outcome-7 (grid size targets) (grid size times) (grid size values) (spacing .limit) adjacent (lent-for 5 size))
+    (outcome-8 (grid size times) (grid size values) (spacing .limit) (lent-for 4 size))))))))
 
 -- The program judges the file form first: 8 is given before anything else is looked at.
 abbrev pub outcome-of : Asked → Outcome

@@ -8,6 +8,9 @@ ghost use Rattle.answer.specs.Answering.{Answered};
 // The bytes of the longest answer: the status, the takes, and a grid of 1,024 cells.
 pub const LONGEST: usize = 4114;
 
+// The bytes of the longest file that is not refused: 24, and three grid fields of 4,096.
+pub const LONGEST_FILE: usize = 12_321;
+
 // The number that the file form is refused with.
 const BAD_FILE: u8 = 8;
 

@@ -12,4 +12,5 @@ mod size;
 mod write;
 
 pub use file::LONGEST;
+pub use file::LONGEST_FILE;
 pub use file::answer_file;

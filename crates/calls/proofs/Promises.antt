@@ -55,10 +55,10 @@ pub record Found (refusals : Judged) (found t : ℕ) (grid answer : List Float) 
   pub takes-are : t ≡ found
   pub answer-is : answer ≡ grid
 
-takes-one : (t u : ℕ) → takes t ≡ takes u → t ≡ u
+pub takes-one : (t u : ℕ) → takes t ≡ takes u → t ≡ u
 takes-one t u e = cc
 
-refusal-no-takes : (r : rules.Refusal) (t : ℕ) → refusal r ≡ takes t → ⊥
+pub refusal-no-takes : (r : rules.Refusal) (t : ℕ) → refusal r ≡ takes t → ⊥
 refusal-no-takes r t e = let never : _≡_ {A = ℕ} 0 1 = cc in omega arith
 
 pub accepted-found :

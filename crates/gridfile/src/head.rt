@@ -3,7 +3,9 @@ use crate::fields::stands_at;
 use crate::numbers::u16_at;
 use crate::numbers::u32_at;
 use crate::tags;
+use crate::used::uses_adjacent;
 use crate::used::uses_cell_size;
+use crate::used::uses_diagonals;
 use crate::used::uses_limit;
 ghost use mathlib.Core.Path.{_≡_};
 ghost use Prim.Native.Nat.{_≤_};
@@ -83,10 +85,10 @@ fn flags_fit(search: u8, diagonals: u8, adjacent: u8) -> bool
     if 1 < adjacent {
         return false;
     }
-    if !zero_unless(search == 2, diagonals as u32) {
+    if !zero_unless(uses_diagonals(search), diagonals as u32) {
         return false;
     }
-    zero_unless(search == 7, adjacent as u32)
+    zero_unless(uses_adjacent(search), adjacent as u32)
 }
 
 // Whether the unused numbers are zero bytes.

@@ -1,6 +1,6 @@
 // What each search uses of a file.
 ghost use mathlib.Core.Path.{_≡_};
-ghost use Rattle.gridfile.specs.Request.{uses-cell-size, uses-limit, grids-of};
+ghost use Rattle.gridfile.specs.Request.{uses-cell-size, uses-limit, uses-diagonals, uses-adjacent, grids-of};
 ghost use Rattle.gridfile.specs.Lookups.{has-of};
 
 // Which of the grids a search has.
@@ -79,4 +79,18 @@ pub fn uses_limit(search: u8) -> bool
         1 | 3 | 6 | 7 | 8 => true,
         _ => false,
     }
+}
+
+// Whether a search has the flag for diagonals.
+pub fn uses_diagonals(search: u8) -> bool
+    ensures { λ r. ⌜ r ≡ uses-diagonals search ⌝ }
+{
+    search == 2
+}
+
+// Whether a search has the flag for adjacent cells.
+pub fn uses_adjacent(search: u8) -> bool
+    ensures { λ r. ⌜ r ≡ uses-adjacent search ⌝ }
+{
+    search == 7
 }

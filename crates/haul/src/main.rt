@@ -1,12 +1,13 @@
 // Program `haul`: reads a grid file on standard input, and writes its answer on standard output.
 use answer::LONGEST;
+use answer::LONGEST_FILE;
 use answer::answer_file;
 use libc::STDIN_FILENO;
 use libc::STDOUT_FILENO;
 
-// One byte more than the longest file that is not refused, 24 + 3 * (3 + 4,096), has: what fills the
-// array is refusal 8, whatever comes after it (proofs/Reading.antt of `answer`).
-const INPUT: usize = 12_322;
+// One byte more than the longest file that is not refused has: what fills the array is refusal 8,
+// whatever comes after it (proofs/Reading.antt of `answer`).
+const INPUT: usize = LONGEST_FILE + 1;
 
 // Reads, answers and writes.
 fn main() {

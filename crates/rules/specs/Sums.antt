@@ -121,11 +121,18 @@ counts amounts c = has-data amounts c && not (eq (float amounts c) plus-zero)
 unfoldable pub runs-8 : Grid Float → Grid Float → Float → List Run
 runs-8 times amounts budget = map (run-of (from-amount times budget)) (passing (counts amounts) 0 (count (times .size)))
 
--- Each cell taken with distance <= budget, once per target.
+-- The cells that gain, after one more was taken: with distance <= budget, once per target.
+abbrev pub gaining-one : Float → List ℕ → ℕ × Float → List ℕ
+gaining-one budget cells taken = cond (le (taken .1) budget) (joined (taken .0) cells) cells
+
+-- Those of the taken cells that gain.
+abbrev pub gaining-of : Float → List (ℕ × Float) → List ℕ
+gaining-of budget taken = foldl (gaining-one budget) [] taken
+
 unfoldable pub gaining : Grid Float → Float → ℕ → List ℕ
 gaining times budget t =
     let net = from-amount times budget t in
-    foldl (λ cells taken. cond (le (taken .1) budget) (joined (taken .0) cells) cells) [] (trace net (net .cells * net .cells) (initial net))
+    gaining-of budget (trace net (net .cells * net .cells) (initial net))
 
 -- Each of them gains the amount.
 unfoldable pub gain : Float → List Float → List ℕ → List Float

@@ -12,7 +12,7 @@ use Rattle.fifo.specs.Machine.{passing, takes-of}
 use Rattle.rules.specs.declared.Size.{Size}
 use Rattle.rules.specs.Sizes.{count}
 use Rattle.rules.specs.Distances.{float}
-use Rattle.rules.specs.Sums.{Run, run-of, from-amount, counts, runs-8, gaining, gain, gains}
+use Rattle.rules.specs.Sums.{Run, run-of, from-amount, counts, runs-8, gaining-of, gaining, gain, gains}
 use Rattle.rules.proofs.Totals.{summed-takes}
 use Rattle.calls.specs.Given.{grid}
 use Rattle.spread.specs.declared.search.Rule.the-variants.{FromAmount}
@@ -23,7 +23,7 @@ use Rattle.spread.specs.Begin.{Begins, BeganTo}
 use Rattle.spread.specs.Promise.{grids, Spreads}
 use Rattle.spread.proofs.Running.{begun-ready, begun-runs}
 use Rattle.spread.proofs.Agrees.{amount-agrees}
-use Rattle.sums.specs.Gain.{gaining-of, Gaining, GainedAll}
+use Rattle.sums.specs.Gain.{Gaining, GainedAll}
 use Rattle.sums.specs.FromAmounts.{Lengths, Searching, SearchedAmount, SearchedCell, SearchingAll, SearchedAll}
 use Rattle.sums.proofs.Endings.{spreads-by-times, ends-as}
 use Rattle.sums.proofs.Starts.{runs-to, fold-next, total-next, total-fits, total-of-runs}

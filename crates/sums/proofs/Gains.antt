@@ -15,7 +15,7 @@ use Rattle.fifo.specs.Machine.{Net, among, joined}
 use Rattle.fifo.proofs.Lists.{same-or-not, among-other, among-last, joined-new, joined-waiting}
 use Rattle.fifo.proofs.Induction.{getD-any}
 use Rattle.rules.specs.Sizes.{count}
-use Rattle.rules.specs.Sums.{gain}
+use Rattle.rules.specs.Sums.{gaining-one, gaining-of, gain}
 use Rattle.rules.specs.Values.{Carried}
 use Rattle.rules.proofs.Tests.{and-both}
 use Rattle.spread.specs.declared.search.Search.{Search}
@@ -25,7 +25,7 @@ use Rattle.spread.specs.Buffers.{Buffers}
 use Rattle.spread.specs.Loop.{taken-at, TookCell, Ready}
 use Rattle.spread.proofs.Running.{Turn, no-turn, next-turn, ran}
 use Rattle.spread.proofs.Tracing.{none-taken, next-taken}
-use Rattle.sums.specs.Gain.{added-mark, gaining-one, gaining-of, Gained, Reached, GainedCell, Gaining, GainedAll}
+use Rattle.sums.specs.Gain.{added-mark, Gained, Reached, GainedCell, Gaining, GainedAll}
 
 -- ---- one cell
 

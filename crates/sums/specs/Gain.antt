@@ -1,14 +1,13 @@
 -- What the run from one amount asks and promises. Definitions only.
-use mathlib.Core.Bool.{cond}
-use mathlib.Core.List.{List, [], foldl}
+use mathlib.Core.List.{List}
 use mathlib.Core.Path.{_≡_}
 use Prim.Native.Nat.{ℕ, _<_}
 use lib.Dec.{eqb}
-use lib.Ieee.{Float, le}
+use lib.Ieee.{Float}
 use lib.ListN.{length, getD, replicate}
-use Rattle.fifo.specs.Machine.{Net, among, joined}
+use Rattle.fifo.specs.Machine.{Net, among}
 use Rattle.rules.specs.Sizes.{count}
-use Rattle.rules.specs.Sums.{gain}
+use Rattle.rules.specs.Sums.{gaining-one, gaining-of, gain}
 use Rattle.rules.specs.Values.{Carried}
 use Rattle.spread.specs.declared.search.Search.{Search}
 use Rattle.spread.specs.Steps.{Terrain}
@@ -18,14 +17,6 @@ use Rattle.spread.specs.Loop.{taken-at, Ready, Running, Ran}
 -- The mark of a cell that has gained the amount.
 abbrev pub added-mark : ℕ
 added-mark = 1
-
--- The cells that have gained, after one more was taken: within the budget, once.
-abbrev pub gaining-one : Float → List ℕ → ℕ × Float → List ℕ
-gaining-one budget cells taken = cond (le (taken .1) budget) (joined (taken .0) cells) cells
-
--- Those of the taken cells that gain.
-abbrev pub gaining-of : Float → List (ℕ × Float) → List ℕ
-gaining-of budget taken = foldl (gaining-one budget) [] taken
 
 -- The cells listed have gained the amount, and are marked so.
 pub record Gained (amount : Float) (start answer : List Float) (added cells : List ℕ) : Type 0 where

@@ -1,4 +1,4 @@
-//! Document 01's small grids A to M, as they stand there, by either build.
+//! Document 01's small grids A to M, as they stand there, and what they leave out, by either build.
 use case::{Answer, Case, Diagonals, Grid, Search, bits_with_one_nan};
 use oracle::{Build, Reading, answer};
 
@@ -96,13 +96,15 @@ fn k_to_m_amounts() {
     holds(&grids([NAN, 4.0], 9.0), &[0.0, 0.0], Some(0));
 }
 
-/// What the document's grids don't show, as crates/rules computes it in `more-grids`.
+// What document 01's grids don't show, as crates/rules computes it in `more-grids`.
+
 #[test]
 fn nodata_on_the_way() {
-    holds(&Case { targets: row(&[1, 0, 0]), times: row(&[2.0, NAN, 4.0]), limit: INF, ..case(3) }, &[0.0, NAN, INF], Some(1));
+    let gap = Case { targets: row(&[1, 0, 0]), times: row(&[2.0, NAN, 4.0]), limit: INF, ..case(3) };
+    holds(&gap, &[0.0, NAN, INF], Some(1));
     holds(&Case { targets: row(&[1, 0]), values: row(&[NAN, 9.0]), ..case(4) }, &[NAN, NAN], Some(2));
-    let grids = Case { targets: row(&[1, 0, 0]), times: row(&[NAN, 4.0, 1.0]), values: row(&[7.0, 9.0, NAN]), ..case(5) };
-    holds(&grids, &[7.0, 7.0, NAN], Some(2));
+    let (times, values) = (row(&[NAN, 4.0, 1.0]), row(&[7.0, 9.0, NAN]));
+    holds(&Case { targets: row(&[1, 0, 0]), times, values, ..case(5) }, &[7.0, 7.0, NAN], Some(2));
 }
 
 #[test]

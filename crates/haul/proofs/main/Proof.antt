@@ -1,6 +1,10 @@
 -- `main` is safe and ends: what is written is within the output. Assumes nothing.
+use mathlib.Core.Path.{_≡_}
+use Prim.Native.Nat.{suc}
 use borrow.Author.Needs.{needs}
-use Rattle.answer.proofs.Lengths.{first}
+use lib.ListN.{length}
+use Rattle.answer.proofs.Lengths.{prefix-long}
+use Rattle.answer.proofs.Reading.{longest-file}
 use Rattle.haul.proofs.main.Statement.{statement}
 use Rattle.haul.proofs.main.Tie as tie
 
@@ -9,6 +13,11 @@ slice-aggregate-read-full c = search needs
 
 read-full-requires : tie.Need-read-full-requires
 read-full-requires c κs = search needs
+
+-- What is read into has one byte more than the longest file that is not refused, so that what was read has the answer of the whole
+-- file (`read-enough` of `answer`).
+pub input-enough : (c : tie.After-read-full) → length (c .read-full .last .1 .0) ≡ suc longest-file
+input-enough c = search needs
 
 array-share-prefix-input : tie.Need-array-share-prefix-input
 array-share-prefix-input c = search needs
@@ -26,7 +35,7 @@ array-share-prefix-output : tie.Need-array-share-prefix-output
 array-share-prefix-output c = search needs
 
 slice-aggregate-write-all : tie.Need-slice-aggregate-write-all
-slice-aggregate-write-all c = first _ _ (array-share-prefix-output (c .before))
+slice-aggregate-write-all c = prefix-long _ _ (array-share-prefix-output (c .before))
 
 write-all-requires : tie.Need-write-all-requires
 write-all-requires c κs = search needs
