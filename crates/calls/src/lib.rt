@@ -30,6 +30,7 @@ pub use judge_values::judge_5;
 pub use judge_values::judge_6;
 pub use scaling::scale;
 pub use scaling::settle;
+pub use zero::fill_floats;
 pub use zero::fill_nan;
 pub use zero::zero_bytes;
 pub use zero::zero_cells;

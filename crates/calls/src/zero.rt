@@ -23,21 +23,25 @@ pub fn zero_cells(cells: &mut [u32])
     }
 }
 
+// Makes every float this one.
+pub fn fill_floats(floats: &mut [f32], value: f32)
+    ensures { λ _. ⌜ now (floats .exit) ≡ replicate (length (now (floats .entry))) value ⌝ }
+{
+    for i in 0..floats.len() {
+        floats[i] = value;
+    }
+}
+
 // Makes every distance +0.0.
 pub fn zero_floats(floats: &mut [f32])
     ensures { λ _. ⌜ now (floats .exit) ≡ replicate (length (now (floats .entry))) plus-zero ⌝ }
 {
-    for i in 0..floats.len() {
-        floats[i] = 0.0;
-    }
+    fill_floats(floats, 0.0);
 }
 
 // Makes every answer the one NaN, as refusal 7 leaves them.
 pub fn fill_nan(answer: &mut [f32])
     ensures { λ _. ⌜ now (answer .exit) ≡ replicate (length (now (answer .entry))) Ieee.nan ⌝ }
 {
-    let one = nan();
-    for i in 0..answer.len() {
-        answer[i] = one;
-    }
+    fill_floats(answer, nan());
 }

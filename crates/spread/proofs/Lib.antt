@@ -9,6 +9,7 @@ pub mod Scans
 pub mod Taking
 pub mod Firsts
 pub mod Beginning
+pub mod BeginningFrom
 pub mod Finishing
 pub mod Running
 pub mod Tracing

@@ -1,11 +1,15 @@
 -- How a search begins: what each cell gets, in row order. Definitions only.
-use mathlib.Core.Bool.{true, false}
+use mathlib.Core.Bool.{true, false, not, cond, _&&_}
 use mathlib.Core.List.{List}
 use mathlib.Core.Path.{_≡_}
 use Prim.Native.Nat.{ℕ, suc, _<_}
+use lib.Dec.{eqb}
 use lib.Ieee.{Float, nan}
 use lib.ListN.{length, getD}
+use Rattle.binary32.specs.Nodata.{nodata}
+use Rattle.binary32.specs.Numbers.{plus-zero}
 use Rattle.cells.specs.Ring.{contents}
+use Rattle.cells.specs.declared.ring.Ring.{Ring}
 use Rattle.fifo.specs.Machine.{passing}
 use Rattle.rules.specs.Sizes.{count}
 use Rattle.spread.specs.declared.search.Search.{Search}
@@ -43,3 +47,18 @@ pub record BeganTo (search : Search) (targets : List ℕ) (times values : List F
 pub record Begins (search : Search) (targets : List ℕ) (times values distances carried : List Float) (marks queue : List ℕ) : Type 0 where
   pub inputs : Inputs search targets times values
   pub lengths : Lengths search distances carried marks queue
+
+-- Every cell is to begin from one.
+pub record BeginsFrom (origin : ℕ) (times distances : List Float) (marks queue : List ℕ) : Type 0 where
+  pub times-length : length times ≡ length distances
+  pub marks-length : length marks ≡ length distances
+  pub queue-length : length queue ≡ suc (length distances)
+
+-- That one is at +0, and waits if its time has data. Any other holds the cap.
+pub record BeganFrom (origin : ℕ) (cap : Float) (times distances : List Float) (marks queue : List ℕ) (distances′ : List Float) (marks′ queue′ : List ℕ) (ring : Ring) : Type 0 where
+  pub distances-are : (c : ℕ) → c < length distances → getD distances′ c nan ≡ cond (eqb c origin) plus-zero cap
+  pub waits : Waiting (length distances) marks′ queue′ ring
+  pub waiting : contents queue′ ring ≡ passing (λ c. eqb c origin && not (nodata (getD times c nan))) 0 (length distances)
+  pub same-distances : length distances′ ≡ length distances
+  pub same-marks : length marks′ ≡ length marks
+  pub same-queue : length queue′ ≡ length queue

@@ -1,84 +1,87 @@
--- `begin::begin_cells` meets its contract: before each turn the cells that were passed have begun. Assumes nothing.
-use mathlib.Core.Path.{_≡_, sym, _∙_}
-use Prim.Native.Nat.{_≤_, _-_}
-use native.Mathlib.Omega.{arith}
-use Rattle.rules.specs.Sizes.{count}
-use Rattle.spread.specs.Buffers.{buffers}
-use Rattle.spread.specs.Begin.{BeganTo}
-use Rattle.spread.proofs.Firsts.{count-fits, next-fits}
-use Rattle.spread.proofs.Beginning.{none-begun, began-on, same-carried-length}
+-- `begin::begin_cells` meets its contract. Assumes nothing.
+use mathlib.Core.Path.{refl}
+use Rattle.spread.proofs.BeginningFrom.{begins-from, began-mask-cell, began-amount}
+use borrow.Author.Needs.{needs}
 use Rattle.spread.proofs.begin.begin_cells.Statement.{statement}
 use Rattle.spread.proofs.begin.begin_cells.Tie as tie
 
-abbrev Inv-loop : tie.InvT-loop
-Inv-loop search targets times values distances₀ carried₀ marks₀ queue₀ end ring₀ cell₀ distances carried marks queue ring cell =
-    (cell ≤ end) × (end ≡ count (search .size)) × BeganTo search targets times values cell carried₀ (buffers distances carried marks queue ring)
+enum-known-rule : tie.Need-enum-known-rule
+enum-known-rule c = search needs
 
-abbrev μ-loop : tie.MeasureT-loop
-μ-loop search targets times values distances₀ carried₀ marks₀ queue₀ end ring₀ cell₀ distances carried marks queue ring cell =
-    end - cell
+infinity-requires : tie.Need-infinity-requires
+infinity-requires c κs = search needs
 
-cell-count-requires : tie.Need-cell-count-requires Inv-loop μ-loop
-cell-count-requires c κs = c .before .before .before .before .before .before .before .pre .inputs .bounds
+begin-from-requires : tie.Need-begin-from-requires
+begin-from-requires c κs = begins-from (c .before .before .before .before .before .before .before .before .before .before .before .before .before .before .pre) (c .before .before .before .before .before .rule .given .1) refl (c .before .before .before .before .before .rule .given .0 .0)
 
-cast-end : tie.Need-cast-end Inv-loop μ-loop
-cast-end c = count-fits (c .before .before .before .before .before .before .before .before .args .search .size) (c .before .before .before .before .before .before .before .before .pre .inputs .bounds) (c .cell-count .ensures)
+enum-known-rule-2 : tie.Need-enum-known-rule-2
+enum-known-rule-2 c = search needs
 
-new-requires : tie.Need-new-requires Inv-loop μ-loop
-new-requires c κs = tt
+begin-from-requires-2 : tie.Need-begin-from-requires-2
+begin-from-requires-2 c κs = begins-from (c .before .before .before .before .before .before .before .before .before .before .before .before .before .before .pre) (c .before .before .before .before .before .rule2 .given .1) refl (c .before .before .before .before .before .rule2 .given .0 .0)
 
-loop-holds : tie.Need-loop-holds Inv-loop μ-loop
-loop-holds c = (omega arith, c .before .cell-count .ensures, none-begun (c .before .before .before .before .before .before .before .before .before .pre .lengths) (c .new .ensures))
+begin-each-requires : tie.Need-begin-each-requires
+begin-each-requires c κs = search needs
 
-begin-cell-requires : tie.Need-begin-cell-requires Inv-loop μ-loop
-begin-cell-requires c κs = let at = c .before .before .before .before .before .loop .inv in
-    record { inputs = c .before .before .before .before .before .before .before .before .before .before .before .before .before .before .before .pre .inputs; inside = rw (at .1) at (c .before .before .before .before .loop-test .taken); begun = at .2 .begun }
+same-length : tie.Need-same-length
+same-length c = search needs
 
-add-cell : tie.Need-add-cell Inv-loop μ-loop
-add-cell c = next-fits (c .before .before .before .before .before .before .before .before .before .before .before .before .before .before .before .before .before .before .before .before .before .before .before .before .args .search .size) (c .before .before .before .before .before .before .before .before .before .before .before .before .before .before .before .before .before .before .before .before .before .before .before .before .pre .inputs .bounds) (c .before .before .before .before .before .before .before .before .before .before .before .before .before .before .loop .inv .1) (c .before .before .before .before .before .before .before .before .before .before .before .before .before .loop-test .taken)
+same-length-2 : tie.Need-same-length-2
+same-length-2 c = search needs
 
-loop-less : tie.Need-loop-less Inv-loop μ-loop
-loop-less c = let below = c .before .before .before .before .before .before .before .before .before .before .before .before .before .loop-test .taken in omega arith
+same-length-3 : tie.Need-same-length-3
+same-length-3 c = search needs
 
-loop-again : tie.Need-loop-again Inv-loop μ-loop
-loop-again c = let at = c .before .before .before .before .before .before .before .before .before .before .before .before .before .before .loop .inv in
-    let below = c .before .before .before .before .before .before .before .before .before .before .before .before .before .loop-test .taken in
-    (omega arith, at .1, began-on (at .2) (c .before .before .before .before .before .before .before .before .begin-cell .ensures))
+returns : tie.Need-returns
+returns c = let from = c .before .before .before .before .before .before .before .before .before .before .before .before .rule .given .1 in began-mask-cell (c .before .before .before .before .before .before .before .before .before .before .before .before .before .before .before .before .before .before .before .before .before .pre) from refl (c .before .before .before .before .before .before .begin-from .ensures) from (c .before .before .before .before .before .before .before .before .before .before .infinity .ensures)
 
-same-length : tie.Need-same-length Inv-loop μ-loop
-same-length c = c .before .loop .inv .2 .begun .lengths .distances-length ∙ sym (c .before .before .before .before .before .before .before .before .before .before .before .pre .lengths .distances-length)
+same-length-4 : tie.Need-same-length-4
+same-length-4 c = search needs
 
-same-length-2 : tie.Need-same-length-2 Inv-loop μ-loop
-same-length-2 c = same-carried-length (c .before .before .before .before .before .before .before .before .before .before .before .pre .lengths) (c .before .loop .inv .2)
+same-length-5 : tie.Need-same-length-5
+same-length-5 c = search needs
 
-same-length-3 : tie.Need-same-length-3 Inv-loop μ-loop
-same-length-3 c = c .before .loop .inv .2 .begun .lengths .marks-length ∙ sym (c .before .before .before .before .before .before .before .before .before .before .before .pre .lengths .marks-length)
+same-length-6 : tie.Need-same-length-6
+same-length-6 c = search needs
 
-same-length-4 : tie.Need-same-length-4 Inv-loop μ-loop
-same-length-4 c = c .before .loop .inv .2 .begun .lengths .queue-length ∙ sym (c .before .before .before .before .before .before .before .before .before .before .before .pre .lengths .queue-length)
+returns-2 : tie.Need-returns-2
+returns-2 c = let from = c .before .before .before .before .before .before .before .before .before .before .before .before .rule2 .given .1 in began-amount (c .before .before .before .before .before .before .before .before .before .before .before .before .before .before .before .before .before .before .before .before .before .pre) from refl (c .before .before .before .before .before .before .begin-from2 .ensures) from refl
 
-returns : tie.Need-returns Inv-loop μ-loop
-returns c = let at = c .before .loop .inv in
-    let done = c .loop-test .left in
-    let all : c .before .loop .cell ≡ count (c .before .before .before .before .before .before .before .before .before .before .before .args .search .size) = omega arith in
-    rw all at (at .2)
+same-length-7 : tie.Need-same-length-7
+same-length-7 c = search needs
+
+same-length-8 : tie.Need-same-length-8
+same-length-8 c = search needs
+
+same-length-9 : tie.Need-same-length-9
+same-length-9 c = search needs
+
+same-length-10 : tie.Need-same-length-10
+same-length-10 c = search needs
+
+returns-3 : tie.Need-returns-3
+returns-3 c = search needs
 
 pub begin-cells-spec : {M : Type 1} → statement M
 begin-cells-spec =
     tie.close
     (tie.spec
-    Inv-loop
-    μ-loop
-    cell-count-requires
-    cast-end
-    new-requires
-    loop-holds
-    begin-cell-requires
-    add-cell
-    loop-less
-    loop-again
+    enum-known-rule
+    infinity-requires
+    begin-from-requires
+    enum-known-rule-2
+    begin-from-requires-2
+    begin-each-requires
     same-length
     same-length-2
     same-length-3
+    returns
     same-length-4
-    returns)
+    same-length-5
+    same-length-6
+    returns-2
+    same-length-7
+    same-length-8
+    same-length-9
+    same-length-10
+    returns-3)

@@ -1,0 +1,225 @@
+-- A search from one cell begins: every distance is the cap, every mark is cleared, and the one cell is set. Assumes nothing.
+use mathlib.Core.Bool.{Bool, true, false, not, cond, _&&_}
+use mathlib.Core.List.{List, [], _∷_}
+use mathlib.Core.Logic.{⊎-elim}
+use mathlib.Core.Path.{_≡_, refl, sym, ap, _∙_, subst}
+use Prim.Native.Nat.{ℕ, zero, suc, _+_, _≤_, _<_}
+use native.Mathlib.Omega.{arith}
+use borrow.Author.Tests.{eq-eqb, ne-eqb}
+use lib.Dec.{eqb}
+use lib.Ieee.{Float, nan, binary32, add}
+use lib.ListN.{length, getD, set, replicate, length-set, length-replicate, getD-replicate}
+use lib.Seq.{getD-set-same, getD-set-other}
+use Rattle.binary32.specs.Nodata.{nodata}
+use Rattle.binary32.specs.Numbers.{plus-zero, one}
+use Rattle.cells.specs.Ring.{contents, NewRing}
+use Rattle.cells.specs.declared.ring.Ring.{Ring}
+use Rattle.fifo.specs.Machine.{among, passing, joined}
+use Rattle.fifo.proofs.Lists.{same-or-not}
+use Rattle.rules.specs.Numbers.{infinity}
+use Rattle.rules.specs.Sizes.{count}
+use Rattle.spread.specs.declared.search.Rule.{Rule}
+use Rattle.spread.specs.declared.search.Rule.the-variants.{FromMaskCell, FromAmount}
+use Rattle.spread.specs.declared.search.Search.{Search}
+use Rattle.spread.specs.declared.first.First.{First}
+use Rattle.spread.specs.Nets.{reads-times}
+use Rattle.spread.specs.Waiting.{Waiting, Joining, Joined}
+use Rattle.spread.specs.Buffers.{buffers}
+use Rattle.spread.specs.First.{net-on, FromCell, FirstOf}
+use Rattle.spread.specs.Begin.{Lengths, BeganTo, Begins, BeginsFrom, BeganFrom}
+use Rattle.spread.proofs.Firsts.{mask-cell-first, amount-first}
+
+-- ---- cells that pass a test
+
+passing-same : (f g : ℕ → Bool) (i k : ℕ) → ((c : ℕ) → i ≤ c → c < i + k → f c ≡ g c) → passing f i k ≡ passing g i k
+unfolding passing
+passing-same f g i zero same = refl
+passing-same f g i (suc k) same =
+    rw (same i (omega arith) (omega arith))
+    (ap (λ rest. cond (g i) (i ∷ rest) rest) (passing-same f g (suc i) k (λ c low high. same c (omega arith) (omega arith))))
+
+passing-none : (test : ℕ → Bool) (i k : ℕ) → ((c : ℕ) → i ≤ c → c < i + k → test c ≡ false) → passing test i k ≡ []
+unfolding passing
+passing-none test i zero fails = refl
+passing-none test i (suc k) fails =
+    rw (fails i (omega arith) (omega arith)) (passing-none test (suc i) k (λ c low high. fails c (omega arith) (omega arith)))
+
+-- Where no other cell passes, one does alone, or none.
+passing-one :
+    (test : ℕ → Bool) (o i k : ℕ) → i ≤ o → o < i + k → ((c : ℕ) → (c ≡ o → ⊥) → test c ≡ false)
+    → passing test i k ≡ cond (test o) (o ∷ []) []
+unfolding passing
+passing-one test o i zero low high others = absurd (omega arith)
+passing-one test o i (suc k) low high others =
+    ⊎-elim here (λ other. later other (passing-one test o (suc i) k (omega (arith, other)) (omega arith) others)) (same-or-not i o)
+  where
+    here : i ≡ o → passing test i (suc k) ≡ cond (test o) (o ∷ []) []
+    here same =
+        ap (λ rest. cond (test i) (i ∷ rest) rest) (passing-none test (suc i) k (λ c above below. others c (λ p. omega arith)))
+        ∙ ap (λ c. cond (test c) (c ∷ []) []) same
+
+    later : (i ≡ o → ⊥) → passing test (suc i) k ≡ cond (test o) (o ∷ []) [] → passing test i (suc k) ≡ cond (test o) (o ∷ []) []
+    later other rest = rw (others i other) rest
+
+-- ---- the one cell
+
+abbrev starts-at : ℕ → List Float → ℕ → Bool
+starts-at origin times c = eqb c origin && not (nodata (getD times c nan))
+
+-- Nothing waits where every mark is cleared and the ring is new.
+pub nothing-waits : {n : ℕ} {marks queue : List ℕ} {ring : Ring} → NewRing ring → marks ≡ replicate n 0 → length queue ≡ suc n → Waiting n marks queue ring
+unfolding among
+nothing-waits {n} {marks} {queue} {ring} new cleared slots =
+    let long : length marks ≡ n = ap length cleared ∙ length-replicate n 0 in
+    record {
+      few = omega arith;
+      slots = slots ∙ ap suc (sym long);
+      in-slots = new .good queue (rw slots (omega arith));
+      single = rw (new .empty queue) tt;
+      inside = λ c i. absurd (rw (new .empty queue) at i);
+      marked = λ c below. rw (new .empty queue) (ap (λ m. eqb m 1) (ap (λ l. getD l c 0) cleared ∙ getD-replicate n c 0 0 below));
+    }
+
+module _
+    {origin : ℕ} (cap : Float) {times distances : List Float} {marks queue : List ℕ} (begins : BeginsFrom origin times distances marks queue)
+    {filled : List Float} {cleared : List ℕ} {ring : Ring}
+    (filled-is : filled ≡ replicate (length distances) cap) (cleared-is : cleared ≡ replicate (length marks) 0) (new : NewRing ring)
+  where
+    filled-long : length filled ≡ length distances
+    filled-long = ap length filled-is ∙ length-replicate (length distances) cap
+
+    cleared-long : length cleared ≡ length marks
+    cleared-long = ap length cleared-is ∙ length-replicate (length marks) 0
+
+    none-wait : Waiting (length distances) cleared queue ring
+    none-wait = nothing-waits new (cleared-is ∙ ap (λ k. replicate k 0) (begins .marks-length)) (begins .queue-length)
+
+    pub origin-inside : origin < length filled → origin < length times
+    origin-inside below = rw (begins .times-length) (rw filled-long at below)
+
+    pub origin-joins : origin < length filled → Joining origin cleared queue ring
+    origin-joins below =
+        let same : (length distances) ≡ length cleared = sym (cleared-long ∙ begins .marks-length) in
+        record { waits = subst (λ k. Waiting k cleared queue ring) same none-wait; inside = rw (← same) (rw filled-long at below) }
+
+    other-fails : (c : ℕ) → (c ≡ origin → ⊥) → starts-at origin times c ≡ false
+    other-fails c other = rw (ne-eqb c origin other)
+
+    set-there : origin < length filled → (c : ℕ) → c < (length distances) → getD (set filled origin plus-zero) c nan ≡ cond (eqb c origin) plus-zero cap
+    set-there below c c-below = ⊎-elim here elsewhere (same-or-not c origin)
+      where
+        here : c ≡ origin → getD (set filled origin plus-zero) c nan ≡ cond (eqb c origin) plus-zero cap
+        here same = rw (eq-eqb c origin same, same) (getD-set-same filled origin plus-zero nan below)
+
+        elsewhere : (c ≡ origin → ⊥) → getD (set filled origin plus-zero) c nan ≡ cond (eqb c origin) plus-zero cap
+        elsewhere other =
+            rw (ne-eqb c origin other)
+            (getD-set-other filled origin c plus-zero nan other ∙ ap (λ l. getD l c nan) filled-is ∙ getD-replicate (length distances) c cap nan c-below)
+
+    origin-starts : {answer : Bool} → answer ≡ nodata (getD times origin nan) → starts-at origin times origin ≡ not answer
+    origin-starts says = rw (eq-eqb origin origin refl) (ap not (sym says))
+
+    -- The cell waits: its time has data.
+    pub began-waiting :
+        origin < length filled → {answer : Bool} → answer ≡ nodata (getD times origin nan) → answer ≡ false
+        → {marks′ queue′ : List ℕ} {ring′ : Ring} → Joined origin cleared queue ring marks′ queue′ ring′
+        → BeganFrom origin cap times distances marks queue (set filled origin plus-zero) marks′ queue′ ring′
+    unfolding joined among
+    began-waiting below says has-data {marks′} {queue′} {ring′} joins =
+        let in-grid : origin < (length distances) = rw filled-long at below in
+        let same : length cleared ≡ (length distances) = cleared-long ∙ begins .marks-length in
+        record {
+          distances-are = set-there below;
+          waits = subst (λ k. Waiting k marks′ queue′ ring′) same (joins .waits);
+          waiting =
+              joins .added ∙ ap (joined origin) (new .empty queue)
+              ∙ sym (passing-one (starts-at origin times) origin 0 (length distances) (omega arith) (omega arith) other-fails ∙ ap (λ b. cond b (origin ∷ []) []) (origin-starts says ∙ ap not has-data));
+          same-distances = length-set filled origin plus-zero ∙ filled-long;
+          same-marks = joins .same-length ∙ cleared-long;
+          same-queue = joins .waits .slots ∙ ap suc (joins .same-length ∙ same) ∙ sym (begins .queue-length);
+        }
+
+    -- It does not: its time is nodata.
+    pub began-idle :
+        origin < length filled → {answer : Bool} → answer ≡ nodata (getD times origin nan) → answer ≡ true
+        → BeganFrom origin cap times distances marks queue (set filled origin plus-zero) cleared queue ring
+    began-idle below says no-data =
+        let in-grid : origin < (length distances) = rw filled-long at below in
+        record {
+          distances-are = set-there below;
+          waits = none-wait;
+          waiting =
+              new .empty queue
+              ∙ sym (passing-one (starts-at origin times) origin 0 (length distances) (omega arith) (omega arith) other-fails ∙ ap (λ b. cond b (origin ∷ []) []) (origin-starts says ∙ ap not no-data));
+          same-distances = length-set filled origin plus-zero ∙ filled-long;
+          same-marks = cleared-long;
+          same-queue = refl;
+        }
+
+    -- It is no cell of the grid.
+    pub began-nowhere : length filled ≤ origin → BeganFrom origin cap times distances marks queue filled cleared queue ring
+    began-nowhere past =
+        let out : (length distances) ≤ origin = rw filled-long at past in
+        record {
+          distances-are = λ c below. rw (ne-eqb c origin (λ p. omega arith)) (ap (λ l. getD l c nan) filled-is ∙ getD-replicate (length distances) c cap nan below);
+          waits = none-wait;
+          waiting = new .empty queue ∙ sym (passing-none (starts-at origin times) 0 (length distances) (λ c low high. other-fails c (λ p. omega arith)));
+          same-distances = filled-long;
+          same-marks = cleared-long;
+          same-queue = refl;
+        }
+
+-- ---- the search
+
+module _
+    {search : Search} {targets : List ℕ} {times values distances carried : List Float} {marks queue : List ℕ}
+    (begins : Begins search targets times values distances carried marks queue) {rule : Rule} (is-rule : search .rule ≡ rule) (timed : reads-times rule ≡ true)
+  where
+    same-grid : count (search .size) ≡ length distances
+    same-grid = sym (begins .lengths .distances-length)
+
+    pub begins-from : (origin : ℕ) → BeginsFrom origin times distances marks queue
+    begins-from origin = record {
+      times-length = begins .inputs .times-length (ap reads-times is-rule ∙ timed) ∙ same-grid;
+      marks-length = begins .lengths .marks-length ∙ same-grid;
+      queue-length = begins .lengths .queue-length ∙ ap suc same-grid;
+    }
+
+    module _
+        {origin : ℕ} {cap : Float} {distances′ : List Float} {marks′ queue′ : List ℕ} {ring : Ring}
+        (began : BeganFrom origin cap times distances marks queue distances′ marks′ queue′ ring)
+      where
+        -- What a cell began with.
+        abbrev begun-with : ℕ → First
+        begun-with c = record { distance = getD distances′ c nan; value = getD carried c nan; starts = eqb c origin && not (nodata (getD times c nan)) }
+
+        pub from-cell-at : (c : ℕ) → c < count (search .size) → FromCell c origin (getD times c nan) cap (begun-with c)
+        from-cell-at c below = record { distance-is = began .distances-are c (rw same-grid at below); starts-is = refl }
+
+        began-as : ((c : ℕ) → c < count (search .size) → FirstOf search targets times values c (begun-with c)) → BeganTo search targets times values (count (search .size)) carried (buffers distances′ carried marks′ queue′ ring)
+        began-as firsts = record {
+          begun = record {
+            lengths = record {
+              distances-length = began .same-distances ∙ begins .lengths .distances-length;
+              carried-length = begins .lengths .carried-length;
+              marks-length = began .same-marks ∙ begins .lengths .marks-length;
+              queue-length = began .same-queue ∙ begins .lengths .queue-length;
+            };
+            waits = subst (λ k. Waiting k marks′ queue′ ring) (sym same-grid) (began .waits);
+            labels = λ obstacles c below. firsts c below .label obstacles;
+            waiting = λ obstacles.
+                began .waiting
+                ∙ ap (passing (λ c. eqb c origin && not (nodata (getD times c nan))) 0) (sym same-grid)
+                ∙ passing-same (λ c. eqb c origin && not (nodata (getD times c nan))) (net-on search targets obstacles times values .start) 0 (count (search .size)) (λ c low high. firsts c (omega arith) .starts obstacles);
+          };
+          kept = λ no-value. refl;
+        }
+
+        pub began-mask-cell : search .rule ≡ FromMaskCell origin → cap ≡ infinity → BeganTo search targets times values (count (search .size)) carried (buffers distances′ carried marks′ queue′ ring)
+        began-mask-cell from capped = began-as (λ c below. mask-cell-first search targets times values c from capped (from-cell-at c below))
+
+        pub began-amount :
+            search .rule ≡ FromAmount origin → cap ≡ add binary32 (search .limit) one
+            → BeganTo search targets times values (count (search .size)) carried (buffers distances′ carried marks′ queue′ ring)
+        began-amount from capped =
+            began-as (λ c below. amount-first search targets times values c from (subst (λ k. FromCell c origin (getD times c nan) k (begun-with c)) capped (from-cell-at c below)))
