@@ -20,10 +20,10 @@ use Rattle.cells.specs.Ring.{Ring, next, gap, from, contents, none, Ring
 abbrev NextIs : ℕ → ℕ → ℕ → Type 0
 NextIs len i n = ((i + 1 < len) × (n ≡ i + 1)) ⊎ ((i + 1 ≡ len) × (n ≡ 0))
 
-next-wraps : (len i : ℕ) → i + 1 ≡ len → next len i ≡ 0
+pub next-wraps : (len i : ℕ) → i + 1 ≡ len → next len i ≡ 0
 next-wraps len i last = rw last (mod-self len)
 
-next-beside : (len i : ℕ) → i + 1 < len → next len i ≡ i + 1
+pub next-beside : (len i : ℕ) → i + 1 < len → next len i ≡ i + 1
 next-beside len i inside = mod-eq-of-lt inside
 
 next-is : (len i : ℕ) → i < len → NextIs len i (next len i)

@@ -1,6 +1,8 @@
 // The cells that wait, first in first out: a ring in lent slots, one more of them than cells can wait.
 // The contracts speak of `contents`, the list of the waiting cells, alone.
-ghost use Rattle.cells.specs.Ring.{HasRoom, HasCell, SaysEmpty, NewRing, Pushed, Took};
+ghost use mathlib.Core.Path.{_≡_};
+ghost use Prim.Native.Nat.{_<_};
+ghost use Rattle.cells.specs.Ring.{next, HasRoom, HasCell, SaysEmpty, NewRing, Pushed, Took};
 
 // The slot of the cell that is next to be taken, and the slot that is next to be filled.
 pub struct Ring {
@@ -30,6 +32,18 @@ pub fn is_empty(ring: Ring) -> bool
     ring.head == ring.tail
 }
 
+// The slot after a slot, of `len` in a ring. A comparison takes less time than a remainder.
+fn slot_after(len: usize, slot: usize) -> usize
+    requires { ⌜ slot < len ⌝ }
+    ensures { λ r. ⌜ r ≡ next len slot ⌝ }
+{
+    let after = slot + 1;
+    if after == len {
+        return 0;
+    }
+    after
+}
+
 // Adds a cell behind those that wait.
 pub fn push(slots: &mut [u32], ring: Ring, cell: u32) -> Ring
     requires { ⌜ HasRoom (now slots) ring ⌝ }
@@ -39,7 +53,7 @@ pub fn push(slots: &mut [u32], ring: Ring, cell: u32) -> Ring
     slots[tail] = cell;
     Ring {
         head: ring.head,
-        tail: (tail + 1) % slots.len(),
+        tail: slot_after(slots.len(), tail),
     }
 }
 
@@ -51,7 +65,7 @@ pub fn take(slots: &[u32], ring: Ring) -> Taken
     let head = ring.head;
     let cell = slots[head];
     let rest = Ring {
-        head: (head + 1) % slots.len(),
+        head: slot_after(slots.len(), head),
         tail: ring.tail,
     };
     Taken { cell, ring: rest }

@@ -10,14 +10,11 @@ mul-cell c = search needs
 shared-slice-read-cell : tie.Need-shared-slice-read-cell
 shared-slice-read-cell c = search needs
 
-add-t6 : tie.Need-add-t6
-add-t6 c = search needs
-
-rem-t10 : tie.Need-rem-t10
-rem-t10 c = search needs
+slot-after-requires : tie.Need-slot-after-requires
+slot-after-requires c κs = search needs
 
 returns : tie.Need-returns
-returns c = take-splits (c .before .args .slots .now) (c .before .args .ring) (c .before .pre)
+returns c = let s = c .before .before .before in rw (c .slot-after .ensures) (take-splits (s .args .slots .now) (s .args .ring) (s .pre))
 
 pub take-spec : {M : Type 1} → statement M
-take-spec = tie.close (tie.spec mul-cell shared-slice-read-cell add-t6 rem-t10 returns)
+take-spec = tie.close (tie.spec mul-cell shared-slice-read-cell slot-after-requires returns)
