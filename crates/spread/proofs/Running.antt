@@ -1,31 +1,36 @@
 -- The whole run: the buffers hold what the machine's run holds, take by take, until nothing waits. Assumes nothing.
 use mathlib.Core.Bool.{Bool, true, false, not}
 use mathlib.Core.List.{List, [], _∷_}
+use mathlib.Core.Logic.{inl, inr, ⊎-elim}
 use mathlib.Core.Path.{_≡_, refl, sym, ap, _∙_, subst}
-use Prim.Native.Nat.{ℕ, suc, _+_, _*_, _≤_}
-use native.Mathlib.Nat.{mul-le-mul, lt-of-le-of-lt, le-trans}
+use Prim.Native.Nat.{ℕ, suc, _+_, _*_, _≤_, _<_}
+use native.Mathlib.Nat.{mul-le-mul, lt-irrefl, lt-of-le-of-lt, le-trans}
 use native.Mathlib.Omega.{arith}
 use borrow.Author.Tests.{not-true, not-false}
 use lib.Dec.{T, lit<}
 use lib.Ieee.{Float}
+use lib.ListN.{length}
 use mir.Syntax.{w64}
 use mir.Val.{Fits}
 use Rattle.cells.specs.Ring.{contents, none, SaysEmpty}
 use Rattle.cells.proofs.Bounds.{bounded}
 use Rattle.fifo.specs.Machine.{Net, initial, run, takes}
 use Rattle.fifo.proofs.Induction.{run-zero, takes-zero}
+use Rattle.fifo.proofs.Lists.{same-or-not}
 use Rattle.fifo.proofs.Runs.{run-last, takes-last}
 use Rattle.rules.specs.declared.Size.{Size}
 use Rattle.rules.specs.Sizes.{in-bounds, count}
 use Rattle.rules.specs.Values.{Carried}
 use Rattle.spread.specs.declared.search.Search.{Search}
 use Rattle.spread.specs.declared.take.Took.{Took}
+use Rattle.spread.specs.declared.take.TookSome.{TookSome}
 use Rattle.spread.specs.Nets.{carries}
 use Rattle.spread.specs.Buffers.{Buffers, Good, Holds}
 use Rattle.spread.specs.Steps.{Terrain, terrain}
 use Rattle.spread.specs.First.{net-on}
 use Rattle.spread.specs.Begin.{BeganTo}
-use Rattle.spread.specs.Loop.{Setting, Taking, TookCell, Ready, Running, Ran}
+use Rattle.spread.specs.Loop.{Setting, Taking, TookCell, Ready, Taken, TookUpTo, Running, Ran}
+pub use Rattle.spread.specs.Loop.{Turn}
 use Rattle.spread.specs.Promise.{grids, Spreads, Spread}
 use Rattle.spread.proofs.Lengths.{carried-length-kept}
 use Rattle.spread.proofs.Rules.{cells-are, follows}
@@ -40,16 +45,24 @@ is-none : (l : List ℕ) → none l ≡ true → l ≡ []
 is-none [] e = refl
 is-none (u ∷ ws) e = absurd (subst T (sym e) tt)
 
--- After r takes, each of them made, the buffers hold what the machine does.
-pub record Taken (search : Search) (net : Net Carried) (b : Buffers) (r : ℕ) : Type 0 where
-  pub holds : Holds search (run net r (initial net)) b
-  pub all : takes net r (initial net) ≡ r
-
--- What holds before each turn of the loop.
-pub record Turn (search : Search) (ground : Terrain) (before b : Buffers) (r : ℕ) : Type 0 where
-  pub good : Good search b
-  pub taken : (net : Net Carried) → Ready search ground net before → Taken search net b r
-  pub kept : carries (search .rule) ≡ false → b .carried ≡ before .carried
+-- Where nothing waits after so many takes, the loop has run.
+ended-turn :
+    {search : Search} {ground : Terrain} {before b : Buffers} {r : ℕ} → Turn search ground before b r → contents (b .queue) (b .ring) ≡ []
+    → Ran search ground before (b .distances) (b .carried) (b .marks) (b .queue) r
+ended-turn turn none-waits = record {
+  lengths = record {
+    distances-length = turn .good .distances-length;
+    carried-length = turn .good .carried-length;
+    marks-length = turn .good .marks-length;
+    queue-length = turn .good .waits .slots ∙ ap suc (turn .good .marks-length);
+  };
+  ended = λ net ready. record {
+    all = turn .taken net ready .all;
+    stopped = turn .taken net ready .holds .waiting ∙ none-waits;
+    labels = turn .taken net ready .holds .labels;
+  };
+  kept = turn .kept;
+}
 
 module _ {search : Search} {ground : Terrain} {before : Buffers} where
   pub no-turn : Good search before → Turn search ground before before 0
@@ -96,26 +109,81 @@ module _ {search : Search} {ground : Terrain} {before : Buffers} where
       }
 
     pub ran : not answer ≡ false → Ran search ground before (b .distances) (b .carried) (b .marks) (b .queue) r
-    ran nothing = record {
-      lengths = record {
-        distances-length = turn .good .distances-length;
-        carried-length = turn .good .carried-length;
-        marks-length = turn .good .marks-length;
-        queue-length = turn .good .waits .slots ∙ ap suc (turn .good .marks-length);
-      };
-      ended = λ net ready. record {
-        all = turn .taken net ready .all;
-        stopped = turn .taken net ready .holds .waiting ∙ is-none (contents (b .queue) (b .ring)) (sym told ∙ not-false answer nothing);
-        labels = turn .taken net ready .holds .labels;
-      };
-      kept = turn .kept;
+    ran nothing = ended-turn turn (is-none (contents (b .queue) (b .ring)) (sym told ∙ not-false answer nothing))
+
+-- ---- some takes, one or all
+
+-- What holds before each turn of the loop.
+pub record Passed (search : Search) (ground : Terrain) (most : ℕ) (before b : Buffers) (took : Took) (r : ℕ) : Type 0 where
+  pub few : r ≤ most
+  pub turn : Turn search ground before b r
+  pub untouched : r ≡ 0 → b ≡ before
+  pub one : r ≡ 1 → TookCell search ground before b took
+
+module _ {search : Search} {ground : Terrain} {most : ℕ} {before : Buffers} where
+  pub none-passed : {took : Took} → Good search before → Passed search ground most before before took 0
+  none-passed good = record { few = omega arith; turn = no-turn good; untouched = λ none-yet. refl; one = λ one-yet. absurd (lt-irrefl 0 (omega arith)) }
+
+  module _ {b : Buffers} {took : Took} {r : ℕ} (passed : Passed search ground most before b took r) {answer : Bool} (empty : SaysEmpty (b .ring) answer) where
+    pub some-passed : Setting search ground → answer ≡ false → Taking search ground b
+    some-passed setting something = turn-takes (passed .turn) empty (ap not something) setting
+
+    pub more-passed : {after : Buffers} {took′ : Took} → r < most → answer ≡ false → TookCell search ground b after took′ → Passed search ground most before after took′ (r + 1)
+    more-passed {after} {took′} below something taken = record {
+      few = omega arith;
+      turn = next-turn (passed .turn) empty (ap not something) taken;
+      untouched = λ none-yet. absurd (lt-irrefl 0 (omega arith));
+      one = λ one-yet. subst (λ first. TookCell search ground first after took′) (passed .untouched (omega arith)) taken;
     }
+
+    pub passed-empty : answer ≡ true → TookUpTo search ground most before b (record { took = took; takes = r })
+    passed-empty nothing = record {
+      turn = passed .turn;
+      few = passed .few;
+      no-more = inr (is-none (contents (b .queue) (b .ring)) (sym (empty .says (b .queue) (passed .turn .good .waits .in-slots)) ∙ nothing));
+      untouched = passed .untouched;
+      one = passed .one;
+    }
+
+  pub passed-most : {b : Buffers} {took : Took} {r : ℕ} → Passed search ground most before b took r → r ≡ most → TookUpTo search ground most before b (record { took = took; takes = r })
+  passed-most passed all = record { turn = passed .turn; few = passed .few; no-more = inl all; untouched = passed .untouched; one = passed .one }
+
+-- One take of one that is to be made is it. Proof: none was made only if nothing waited.
+pub one-taken :
+    {search : Search} {ground : Terrain} {before after : Buffers} {some : TookSome}
+    → Taking search ground before → TookUpTo search ground 1 before after some → TookCell search ground before after (some .took)
+one-taken {before = before} {after} {some} takes took = ⊎-elim (took .one) (λ none-waits. ⊎-elim (λ none-yet. absurd (waited none-waits none-yet)) (λ some-yet. took .one (let few = took .few in omega (arith, some-yet))) (same-or-not (some .takes) 0)) (took .no-more)
+  where
+    waited : contents (after .queue) (after .ring) ≡ [] → some .takes ≡ 0 → ⊥
+    waited none-waits none-yet =
+        let none-before : contents (before .queue) (before .ring) ≡ [] = subst (λ b. contents (b .queue) (b .ring) ≡ []) (took .untouched none-yet) none-waits in
+        let long = takes .some in
+        let short : length (contents (before .queue) (before .ring)) ≡ 0 = ap length none-before in
+        omega arith
+
+-- Where the square were taken, nothing waits: the machine would take one more.
+pub all-taken :
+    {search : Search} {ground : Terrain} {before after : Buffers} {some : TookSome} {most : ℕ} → most ≡ count (search .size) * count (search .size)
+    → (net : Net Carried) × Ready search ground net before → TookUpTo search ground most before after some
+    → Ran search ground before (after .distances) (after .carried) (after .marks) (after .queue) (some .takes)
+all-taken {search} {ground} {before} {after} {some} {most} square (net, ready) took = ended-turn (took .turn) (⊎-elim (λ all. go all (contents (after .queue) (after .ring)) refl) (λ none-waits. none-waits) (took .no-more))
+  where
+    go : some .takes ≡ most → (l : List ℕ) → contents (after .queue) (after .ring) ≡ l → contents (after .queue) (after .ring) ≡ []
+    go all [] e = e
+    go all (u ∷ ws) e =
+        let made = takes-last net (some .takes) (initial net) u ws (took .turn .taken net ready .holds .waiting ∙ e) in
+        let bound = ready .within (some .takes + 1) in
+        absurd (lt-irrefl 0 (omega arith))
 
 -- The takes are counted in 64 bits: the square of the number of cells fits.
 pub counted-fits : (size : Size) → T (in-bounds size) → (r : ℕ) → r + 1 ≤ count size * count size → Fits w64 (r + 1)
 counted-fits size bounds r below =
     let most = bounded size bounds .cells-most in
     record { fits = lt-of-le-of-lt (le-trans below (mul-le-mul most most)) (lit< tt) }
+
+-- And so does the square itself.
+pub square-fits : (size : Size) → T (in-bounds size) → {n : ℕ} → n ≡ count size → Fits w64 (n * n)
+square-fits size bounds counted = let most = bounded size bounds .cells-most in rw counted (record { fits = lt-of-le-of-lt (mul-le-mul most most) (lit< tt) })
 
 -- ---- from the beginning to the end
 

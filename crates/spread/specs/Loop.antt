@@ -1,6 +1,7 @@
 -- What the functions of the loop ask and promise, from one neighbour to the whole run. Definitions only.
 use mathlib.Core.Bool.{Bool, true, false, cond}
 use mathlib.Core.List.{List, [], _∷_, _++_, map}
+use mathlib.Core.Logic.{_⊎_}
 use mathlib.Core.Path.{_≡_}
 use Prim.Native.Nat.{ℕ, _-_, _*_, _≤_, _<_}
 use lib.Dec.{T}
@@ -15,6 +16,7 @@ use Rattle.spread.specs.declared.search.Rule.{Rule}
 use Rattle.spread.specs.declared.search.Search.{Search}
 use Rattle.spread.specs.declared.relax.Left.{Left}
 use Rattle.spread.specs.declared.take.Took.{Took}
+use Rattle.spread.specs.declared.take.TookSome.{TookSome}
 use Rattle.spread.specs.Nets.{carries, reads-times, labels-of}
 use Rattle.spread.specs.Steps.{Terrain, labelled, avoids, Numbers, numbers-of, straight-steps, diagonal-steps, Follows}
 use Rattle.spread.specs.Waiting.{Joining, Joined}
@@ -107,6 +109,30 @@ pub record Ready (search : Search) (ground : Terrain) (net : Net Carried) (b : B
   pub follows : Follows search ground net
   pub holds : Holds search (initial net) b
   pub within : (k : ℕ) → takes net k (initial net) ≤ count (search .size) * count (search .size)
+
+-- After r takes, each of them made, the buffers hold what the machine does.
+pub record Taken (search : Search) (net : Net Carried) (b : Buffers) (r : ℕ) : Type 0 where
+  pub holds : Holds search (run net r (initial net)) b
+  pub all : takes net r (initial net) ≡ r
+
+-- So it is for every net that the buffers were ready for before.
+pub record Turn (search : Search) (ground : Terrain) (before b : Buffers) (r : ℕ) : Type 0 where
+  pub good : Good search b
+  pub taken : (net : Net Carried) → Ready search ground net before → Taken search net b r
+  pub kept : carries (search .rule) ≡ false → b .carried ≡ before .carried
+
+-- Cells are to be taken, if any wait.
+pub record TakingSome (search : Search) (ground : Terrain) (b : Buffers) : Type 0 where
+  pub good : Good search b
+  pub setting : Setting search ground
+
+-- So many were taken, `most` or until nothing waited; where one was, that is its take.
+pub record TookUpTo (search : Search) (ground : Terrain) (most : ℕ) (before after : Buffers) (some : TookSome) : Type 0 where
+  pub turn : Turn search ground before after (some .takes)
+  pub few : some .takes ≤ most
+  pub no-more : (some .takes ≡ most) ⊎ (contents (after .queue) (after .ring) ≡ [])
+  pub untouched : some .takes ≡ 0 → after ≡ before
+  pub one : some .takes ≡ 1 → TookCell search ground before after (some .took)
 
 -- The loop is to run: there is a net that they are ready for.
 pub record Running (search : Search) (ground : Terrain) (b : Buffers) : Type 0 where

@@ -1,9 +1,9 @@
 // The loop: cells are taken until nothing waits.
 use crate::begin::begin_cells;
 use crate::search::Search;
-use crate::take::take_cell;
+use crate::take::take_some;
 use cells::Ring;
-use cells::is_empty;
+use cells::cell_count;
 ghost use Rattle.spread.specs.Steps.{terrain};
 ghost use Rattle.spread.specs.Buffers.{buffers};
 ghost use Rattle.spread.specs.Loop.{Running, Ran};
@@ -25,27 +25,19 @@ fn run(
         (buffers (now (distances .entry)) (now (carried .entry)) (now (marks .entry)) (now (queue .entry)) ring)
         (now (distances .exit)) (now (carried .exit)) (now (marks .exit)) (now (queue .exit)) r ⌝ }
 {
-    let mut waiting = ring;
-    let mut takes: u64 = 0;
-    while !is_empty(waiting) {
-        let took = take_cell(
-            search,
-            obstacles,
-            times,
-            distances,
-            carried,
-            marks,
-            queue,
-            waiting,
-        );
-        let rest = took.ring;
-        waiting = Ring {
-            head: rest.head,
-            tail: rest.tail,
-        };
-        takes += 1;
-    }
-    takes
+    let cells = cell_count(search.size) as u64;
+    let some = take_some(
+        search,
+        obstacles,
+        times,
+        distances,
+        carried,
+        marks,
+        queue,
+        ring,
+        cells * cells,
+    );
+    some.takes
 }
 
 // Spreads from the starting cells over the whole grid: the distances, the values that go along, and the answer, how many cells were taken.

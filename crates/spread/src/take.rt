@@ -6,10 +6,11 @@ use crate::search::Rule;
 use crate::search::Search;
 use crate::waiting::take_first;
 use cells::Ring;
+use cells::is_empty;
 use cells::near;
 ghost use Rattle.spread.specs.Steps.{terrain};
 ghost use Rattle.spread.specs.Buffers.{buffers};
-ghost use Rattle.spread.specs.Loop.{CanLeave, LeftCell, Taking, TookCell};
+ghost use Rattle.spread.specs.Loop.{CanLeave, LeftCell, Taking, TookCell, TakingSome, TookUpTo};
 
 // A taken cell, the distance that it had when it was taken, and the ring afterwards.
 pub struct Took {
@@ -40,7 +41,7 @@ fn leave(rule: Rule, distances: &[f32], carried: &[f32], cell: u32) -> Left
 }
 
 // Takes the cell that waited longest, and tries its neighbours.
-pub fn take_cell(
+fn take_one(
     search: Search,
     obstacles: &[u8],
     times: &[f32],
@@ -80,4 +81,84 @@ pub fn take_cell(
         distance: left.distance,
         ring: waiting,
     }
+}
+
+// The last cell that was taken, and how many were.
+pub struct TookSome {
+    pub took: Took,
+    pub takes: u64,
+}
+
+// Takes cells until nothing waits, at most so many. The one loop for those who take one cell at a time and for
+// those who take all, so that the compiler puts a take in line here.
+pub fn take_some(
+    search: Search,
+    obstacles: &[u8],
+    times: &[f32],
+    distances: &mut [f32],
+    carried: &mut [f32],
+    marks: &mut [u8],
+    queue: &mut [u32],
+    ring: Ring,
+    most: u64,
+) -> TookSome
+    requires { ⌜ TakingSome search (terrain (now obstacles) (now times)) (buffers (now distances) (now carried) (now marks) (now queue) ring) ⌝ }
+    ensures { λ r. ⌜ TookUpTo search (terrain (now (obstacles .entry)) (now (times .entry))) most
+        (buffers (now (distances .entry)) (now (carried .entry)) (now (marks .entry)) (now (queue .entry)) ring)
+        (buffers (now (distances .exit)) (now (carried .exit)) (now (marks .exit)) (now (queue .exit)) (r .took .ring)) r ⌝ }
+{
+    let mut took = Took {
+        cell: 0,
+        distance: 0.0,
+        ring,
+    };
+    let mut takes: u64 = 0;
+    while takes < most {
+        let waiting = took.ring;
+        if is_empty(waiting) {
+            return TookSome { took, takes };
+        }
+        took = take_one(
+            search,
+            obstacles,
+            times,
+            distances,
+            carried,
+            marks,
+            queue,
+            waiting,
+        );
+        takes += 1;
+    }
+    TookSome { took, takes }
+}
+
+// Takes the cell that waited longest, and tries its neighbours.
+pub fn take_cell(
+    search: Search,
+    obstacles: &[u8],
+    times: &[f32],
+    distances: &mut [f32],
+    carried: &mut [f32],
+    marks: &mut [u8],
+    queue: &mut [u32],
+    ring: Ring,
+) -> Took
+    requires { ⌜ Taking search (terrain (now obstacles) (now times)) (buffers (now distances) (now carried) (now marks) (now queue) ring) ⌝ }
+    ensures { λ r. ⌜ TookCell search (terrain (now (obstacles .entry)) (now (times .entry)))
+        (buffers (now (distances .entry)) (now (carried .entry)) (now (marks .entry)) (now (queue .entry)) ring)
+        (buffers (now (distances .exit)) (now (carried .exit)) (now (marks .exit)) (now (queue .exit)) (r .ring)) r ⌝ }
+{
+    let some = take_some(
+        search,
+        obstacles,
+        times,
+        distances,
+        carried,
+        marks,
+        queue,
+        ring,
+        1,
+    );
+    some.took
 }
