@@ -2,7 +2,8 @@
 //
 // The crate promises that a size is judged by the bounds (`in_bounds`, `same_size`, `cell_count`), that
 // a cell's neighbours are those that the table of offsets leads to inside the grid, in its order
-// (`neighbours_of`; `neighbour_at` is the one at any single step), and that the ring serves cells in the order in which they came (`push`, `take`).
+// (`neighbours_of`, and `near`, which finds the same list faster; `neighbour_at` is the one at any single
+// step), and that the ring serves cells in the order in which they came (`push`, `take`).
 // Its laws, for the crates above, are in proofs/: a neighbour is a cell of the grid and never the cell
 // itself, and what the ring's functions do to the list of the waiting cells.
 mod neighbours;
