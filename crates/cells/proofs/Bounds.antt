@@ -12,6 +12,8 @@ use lib.Signed.{mag, leZ, nonNeg}
 use mir.Syntax.{Width, w32, w64}
 use mir.Val.{Fits, SFits, bits, toZ, ofZ}
 use mir.Facts.{toZ-ofZ, and-yes}
+use Rattle.fifo.proofs.Lists.{holds}
+use Rattle.rules.proofs.Tests.{and-then, and-not}
 use Rattle.rules.specs.declared.Size.{Size}
 use Rattle.rules.specs.Sizes.{side-fits, count, in-bounds, same-number, same-size}
 
@@ -21,19 +23,6 @@ side-max = 32767
 
 abbrev pub cells-max : ℕ
 cells-max = 1048576
-
--- ---- a conjunction whose second test is made only where the first holds
-
-pub and-then : (a b : Bool) → a ≡ true → b ≡ (a && b)
-and-then true b first = refl
-and-then false b first = absurd (false≢true first)
-
-pub and-not : (a b : Bool) → a ≡ false → a ≡ (a && b)
-and-not true b first = absurd (false≢true (sym first))
-and-not false b first = refl
-
-pub passed : {b : Bool} → b ≡ true → T b
-passed {b} e = subst T (sym e) tt
 
 -- ---- a side, and a size, within the bounds
 
@@ -110,12 +99,12 @@ module _ (size : Size) where
   cols-refused rows cols = rw (rows, cols)
 
   pub cells-multiplied : side-fits (size .rows) ≡ true → side-fits (size .cols) ≡ true → SFits w32 (read (size .rows) *ℤ read (size .cols))
-  cells-multiplied rows cols = product-fits (side (size .rows) (passed rows)) (side (size .cols) (passed cols))
+  cells-multiplied rows cols = product-fits (side (size .rows) (holds rows)) (side (size .cols) (holds cols))
 
   pub cells-tested :
       side-fits (size .rows) ≡ true → side-fits (size .cols) ≡ true
       → leZ (read (read (size .rows) *ℤ read (size .cols))) (pos cells-max) ≡ in-bounds size
-  cells-tested rows cols = rw (product-read (side (size .rows) (passed rows)) (side (size .cols) (passed cols)), rows, cols)
+  cells-tested rows cols = rw (product-read (side (size .rows) (holds rows)) (side (size .cols) (holds cols)), rows, cols)
 
 -- A side without its sign.
 module _ {k : ℤ} (k-side : Side k) where
@@ -139,10 +128,10 @@ abbrev pub bits-equal : ℤ → ℤ → Bool
 bits-equal k l = eqb (ofZ w32 k) (ofZ w32 l)
 
 same-is : (k l : ℤ) → same-number k l ≡ true → k ≡ l
-same-is (pos a) (pos b) e = let both = and-yes (leb a b) (leb b a) (passed e) in ap pos (le-antisymm (leb→le a b (both .0)) (leb→le b a (both .1)))
+same-is (pos a) (pos b) e = let both = and-yes (leb a b) (leb b a) (holds e) in ap pos (le-antisymm (leb→le a b (both .0)) (leb→le b a (both .1)))
 same-is (pos a) (negsuc b) e = absurd (false≢true e)
 same-is (negsuc a) (pos b) e = absurd (false≢true e)
-same-is (negsuc a) (negsuc b) e = let both = and-yes (leb b a) (leb a b) (passed e) in ap negsuc (le-antisymm (leb→le a b (both .1)) (leb→le b a (both .0)))
+same-is (negsuc a) (negsuc b) e = let both = and-yes (leb b a) (leb a b) (holds e) in ap negsuc (le-antisymm (leb→le a b (both .1)) (leb→le b a (both .0)))
 
 same-self : (k : ℤ) → same-number k k ≡ true
 same-self (pos a) = rw (le-leb a a (le-refl a))

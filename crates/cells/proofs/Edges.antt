@@ -18,7 +18,8 @@ use Rattle.rules.specs.declared.Size.{Size}
 use Rattle.rules.specs.Sizes.{count}
 use Rattle.rules.specs.Cells.{offsets, index, row-of, col-of, within}
 use Rattle.cells.specs.Storing.{Step, stay, on, back}
-use Rattle.cells.proofs.Bounds.{cells-max, Side, Bounded, read, side-read, cast-is, and-then, and-not, product-fits, product-read}
+use Rattle.rules.proofs.Tests.{and-then, and-not}
+use Rattle.cells.proofs.Bounds.{cells-max, Side, Bounded, read, side-read, cast-is, product-fits, product-read}
 
 -- ---- between the edges
 

@@ -4,16 +4,17 @@ use mathlib.Core.Path.{_≡_, refl, sym, ap, _∙_}
 use mathlib.Core.Logic.{_⊎_, inl, inr}
 use mathlib.Core.List.{List, [], _∷_, _++_, append-assoc}
 use Prim.Native.Nat.{ℕ, zero, suc, _+_, _-_, _≤_, _<_, zero-le}
-use native.Mathlib.Nat.{lt-irrefl, lt-of-le-of-lt, le-of-suc-le-suc, not-suc-le-zero}
+use native.Mathlib.Nat.{lt-irrefl, lt-of-le-of-lt}
 use native.Mathlib.Omega.{arith}
 use lib.ListN.{length, getD, take, drop, replicate, length-append, length-replicate, length-drop, take-append-drop}
-use lib.Seq.{sets, sets-eq, take-append-seam, drop-append-seam, drop-append-add, length-take-le, drop-drop, getD-take, getD-drop}
+use lib.Seq.{sets, sets-eq, take-append-seam, drop-append-seam, drop-append-add, length-take-le, drop-drop}
 use Rattle.fifo.specs.Walk.{In}
+use Rattle.rules.proofs.Neighbours.{neighbours-inside}
 use Rattle.rules.specs.declared.Size.{Size}
 use Rattle.rules.specs.Sizes.{count}
 use Rattle.rules.specs.Cells.{offsets, neighbour, neighbours, straight-neighbours, diagonal-neighbours}
 use Rattle.cells.specs.Neighbours.{Neighbours, Lists, CellOf}
-use Rattle.cells.proofs.NeighbourLists.{neighbours-below, not-own-straight, not-own-diagonal, straight-split, neighbours-split, one-more, at-most-one}
+use Rattle.cells.proofs.NeighbourLists.{straight-split, neighbours-split, one-more, at-most-one}
 
 -- ---- the array that is filled
 
@@ -158,16 +159,11 @@ all-filled {size} {u} {cells} {sideways} {straight} {found} cell filled =
       count-most = omega arith;
       inside =
           let all = neighbours size u offsets in
-          let below = padded-below (count size) (lt-of-le-of-lt zero-le (cell .below)) all (neighbours-below size u offsets) (8 - length all) in
+          let below = padded-below (count size) (lt-of-le-of-lt zero-le (cell .below)) all (neighbours-inside size u offsets) (8 - length all) in
           λ k. rw (filled .cells-are) (below k);
     }
 
 -- ---- what the struct says
-
-in-at : (l : List ℕ) (k : ℕ) → k < length l → In (getD l k 0) l
-in-at [] k less = absurd (not-suc-le-zero less)
-in-at (v ∷ l) zero less = inl refl
-in-at (v ∷ l) (suc k) less = inr (in-at l k (le-of-suc-le-suc less))
 
 -- Where a list begins with a part, the part's length is where it ends.
 begins : (k : ℕ) (l part : List ℕ) → k ≤ length l → take k l ≡ part → k ≡ length part
@@ -200,29 +196,6 @@ module _ {size : Size} {u : ℕ} {r : Neighbours} (lists : Lists size u r) where
       sym (take-append-drop (r .straight) (r .cells))
       ∙ ap (λ (l : List ℕ). take (r .straight) (r .cells) ++ l) (sym (take-append-drop (r .count - r .straight) behind))
       ∙ rw (lists .straight-ones, lists .diagonal-ones, drop-drop (r .count - r .straight) (r .straight) (r .cells), up-to, lists .rest)
-
-  -- The k-th straight neighbour is the k-th entry, and the k-th diagonal one the k-th entry behind the straight ones.
-  pub straight-entry : (k : ℕ) → k < r .straight → getD (straight-neighbours size u) k 0 ≡ getD (r .cells) k 0
-  straight-entry k less = ap (λ (l : List ℕ). getD l k 0) (sym (lists .straight-ones)) ∙ getD-take (r .straight) (r .cells) k 0 less
-
-  pub diagonal-entry : (k : ℕ) → k < r .count - r .straight → getD (diagonal-neighbours size u) k 0 ≡ getD (r .cells) (r .straight + k) 0
-  diagonal-entry k less =
-      ap (λ (l : List ℕ). getD l k 0) (sym (lists .diagonal-ones))
-      ∙ getD-take (r .count - r .straight) (drop (r .straight) (r .cells)) k 0 less ∙ getD-drop (r .straight) (r .cells) k 0
-
-  -- No entry up to the count is the cell itself.
-  pub straight-entry-other : (k : ℕ) → k < r .straight → getD (r .cells) k 0 ≡ u → ⊥
-  straight-entry-other k less =
-      let first = straight-long in
-      let here : In (getD (straight-neighbours size u) k 0) (straight-neighbours size u) = in-at (straight-neighbours size u) k (omega arith) in
-      rw (straight-entry k less) at (not-own-straight size u (getD (straight-neighbours size u) k 0) here)
-
-  pub diagonal-entry-other : (k : ℕ) → k < r .count - r .straight → getD (r .cells) (r .straight + k) 0 ≡ u → ⊥
-  diagonal-entry-other k less =
-      let first = straight-long in
-      let all = count-long in
-      let here : In (getD (diagonal-neighbours size u) k 0) (diagonal-neighbours size u) = in-at (diagonal-neighbours size u) k (omega arith) in
-      rw (diagonal-entry k less) at (not-own-diagonal size u (getD (diagonal-neighbours size u) k 0) here)
 
 -- The size and the cell decide the struct. Proof: its counts are the lengths of the lists, and its array is the straight ones, the diagonal
 -- ones and zeros.

@@ -1,5 +1,4 @@
--- The lists of neighbours: each is below the number of cells, no cell is its own neighbour, and the lists go by parts of the table of
--- offsets. Assumes nothing.
+-- The lists of neighbours: no cell is its own neighbour, and the lists go by parts of the table of offsets. Assumes nothing.
 use mathlib.Core.Path.{_≡_, refl, sym, ap, _∙_}
 use mathlib.Core.Bool.{Bool, true, false, not, cond, _&&_}
 use mathlib.Core.Logic.{_⊎_, inl, inr, ⊎-elim}
@@ -15,17 +14,13 @@ use lib.Seq.{take-suc}
 use lib.Signed.{mag}
 use mir.Facts.{and-yes}
 use Rattle.fifo.specs.Walk.{In}
+use Rattle.fifo.proofs.Lists.{in-either}
 use Rattle.rules.specs.declared.Size.{Size}
 use Rattle.rules.specs.Sizes.{count}
 use Rattle.rules.specs.Cells.{offsets, index, row-of, col-of, within, neighbour, neighbours, straight-neighbours, diagonal-neighbours}
-use Rattle.cells.proofs.Edges.{Inside, inside, index-below}
+use Rattle.cells.proofs.Edges.{Inside, inside}
 
 -- ---- what stands in the lists
-
-in-append : (v : ℕ) (a b : List ℕ) → In v (a ++ b) → In v a ⊎ In v b
-in-append v [] b here = inr here
-in-append v (x ∷ a) b (inl same) = inl (inl same)
-in-append v (x ∷ a) b (inr later) = ⊎-elim (λ first. inl (inr first)) (λ second. inr second) (in-append v a b later)
 
 module _ (size : Size) (u : ℕ) where
   -- The place at an offset.
@@ -55,18 +50,6 @@ module _ (size : Size) (u : ℕ) where
           record { row-in = inside (size .rows) (to-row offset) (both .0); col-in = inside (size .cols) (to-col offset) (both .1); cell-is = same }
       go true holds (inr later) = absurd later
       go false holds here = absurd here
-
-  -- Each neighbour is a cell of the grid. Proof: only a place between the edges is in a list, and there a row times the columns plus a
-  -- column is below the rows times the columns.
-  pub neighbours-below : (list : List (List ℤ)) (v : ℕ) → In v (neighbours size u list) → v < count size
-  unfolding neighbours
-  neighbours-below [] v here = absurd here
-  neighbours-below (offset ∷ others) v here =
-      ⊎-elim
-      (λ first. let is = neighbour-is v offset first in
-      rw (is .cell-is) (index-below size (mag (to-row offset)) (mag (to-col offset)) (is .row-in .less) (is .col-in .less)))
-      (λ later. neighbours-below others v later)
-      (in-append v (neighbour size u offset) (neighbours size u others) here)
 
 -- ---- no cell is its own neighbour
 
@@ -108,7 +91,7 @@ module _ (size : Size) (u : ℕ) where
   others-only [] elsewhere v here = absurd here
   others-only (offset ∷ others) elsewhere v here =
       let each = and-yes (moves offset) (all-move others) elsewhere in
-      ⊎-elim (neighbour-other offset (each .0) v) (others-only others (each .1) v) (in-append v (neighbour size u offset) (neighbours size u others) here)
+      ⊎-elim (neighbour-other offset (each .0) v) (others-only others (each .1) v) (in-either v (neighbour size u offset) (neighbours size u others) here)
 
   -- No cell is its own neighbour.
   pub not-own-straight : (v : ℕ) → In v (straight-neighbours size u) → v ≡ u → ⊥

@@ -144,10 +144,6 @@ module _ (slots : List ℕ) (ring : Ring) where
   unfolding contents
   length-contents = length-from slots (gap (length slots) (ring .head) (ring .tail)) (ring .head)
 
-  -- There are fewer waiting cells than slots.
-  pub contents-fewer : RingGood slots ring → length (contents slots ring) < length slots
-  contents-fewer good = rw length-contents (gap-less (good .head-in) (good .tail-in) (gap-is (length slots) (ring .head) (ring .tail)))
-
   -- Nothing waits exactly where the head is the tail. Proof: the gap is 0 exactly there.
   pub empty-where-met : RingGood slots ring → eqb (ring .head) (ring .tail) ≡ none (contents slots ring)
   unfolding contents from

@@ -14,7 +14,8 @@ use Rattle.rules.specs.declared.Size.{Size}
 use Rattle.rules.specs.Cells.{offsets, index, row-of, col-of, within, neighbour}
 use Rattle.cells.specs.Neighbours.{CellOf}
 use Rattle.cells.specs.Storing.{InGrid, Step, Stepping, Neighbour, At, Outside, cells-at, Leads, Stored}
-use Rattle.cells.proofs.Bounds.{Bounded, bounded, passed, read, side-same}
+use Rattle.fifo.proofs.Lists.{holds}
+use Rattle.cells.proofs.Bounds.{Bounded, bounded, read, side-same}
 use Rattle.cells.proofs.Edges.{Inside, inside, small, row-cast, col-cast, row-between, col-between}
 use Rattle.cells.proofs.Edges.{row-offset, col-offset, step-read, step-fits, stepped}
 
@@ -56,7 +57,7 @@ module _ (size : Size) (row col : ℤ) {down across : ℤ} (from : Stepping size
   pub stepped-in-grid :
       within (size .rows) (row +ℤ down) ≡ true → within (size .cols) (col +ℤ across) ≡ true
       → InGrid size (read (read row +ℤ read down)) (read (read col +ℤ read across))
-  stepped-in-grid row-here col-here = record { bounds = from .place .bounds; row-in = rw to-row (passed row-here); col-in = rw to-col (passed col-here) }
+  stepped-in-grid row-here col-here = record { bounds = from .place .bounds; row-in = rw to-row (holds row-here); col-in = rw to-col (holds col-here) }
 
   pub stepped-index :
       {cell : ℕ} → cell ≡ index size (mag (read (read row +ℤ read down))) (mag (read (read col +ℤ read across)))

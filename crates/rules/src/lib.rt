@@ -4,7 +4,7 @@
 // search answers: its refusals, its starting state, its steps, its takes and its answer grid. All of
 // it computes. proofs/ has the grids on which that was tried, and what holds of the rules: demand 3
 // for searches 1 to 3, that a value of searches 4 to 6 is that of a closest target, and that every
-// search's takes are within the square.
+// search's takes are within the square, and 0 where nothing starts.
 
 // Rows and columns are signed 32-bit numbers.
 pub struct Size {

@@ -14,22 +14,17 @@ use Rattle.cells.specs.declared.ring.Ring.{Ring}
 use Rattle.cells.specs.declared.ring.Taken.{Taken}
 use Rattle.fifo.specs.Machine.{among, passing}
 use Rattle.fifo.specs.Walk.{In, NoDup}
-use Rattle.fifo.proofs.Lists.{true-or-false, same-or-not, in-among, in-either, joined-waiting, joined-new, no-dup-joined, no-dup-no-longer, in-passing, length-passing, not-among, among-other, among-tail, among-last}
+use Rattle.fifo.proofs.Lists.{same-or-not, in-either, joined-waiting, joined-new, no-dup-joined, not-among, among-other, among-tail, among-last, room-for-new}
 use Rattle.spread.specs.Waiting.{border, Waiting, Beginning, Began, Joining, Joined, TookFirst}
 
 -- ---- marks and ring
 
 module _ {seen : ℕ} {marks queue : List ℕ} {ring : Ring} (waits : Waiting seen marks queue ring) where
-  -- There is room for a cell that does not wait: with it the waiting cells are still cells, each once, so no more than there are.
+  -- There is room for a cell that does not wait: the waiting cells are cells, each once, and lack that one.
   pub has-room : (v : ℕ) → v < length marks → among v (contents queue ring) ≡ false → HasRoom queue ring
   has-room v inside out =
-      let all = passing (λ c. true) 0 (length marks) in
-      let below : (c : ℕ) → c < length marks → In c all = λ c below. in-passing (λ c. true) 0 (length marks) c (omega arith) (omega arith) tt in
-      let known : (c : ℕ) → In c (v ∷ contents queue ring) → In c all
-      = λ c i. ⊎-elim (λ p. below c (rw p inside)) (λ j. let in-seen = waits .inside c j in let few = waits .few in below c (omega arith)) i in
-      let single : NoDup (v ∷ contents queue ring) = (λ i. true-or-false (in-among v (contents queue ring) i) out, waits .single) in
-      let fewer = no-dup-no-longer (v ∷ contents queue ring) all single known in
-      let most = length-passing (λ c. true) 0 (length marks) in
+      let known : (c : ℕ) → In c (contents queue ring) → c < length marks = λ c i. let in-seen = waits .inside c i in let few = waits .few in omega arith in
+      let fewer = room-for-new (length marks) v (contents queue ring) (waits .single) known inside out in
       let slots = waits .slots in
       record { good = waits .in-slots; room = omega arith }
 

@@ -25,7 +25,7 @@ use Rattle.spread.specs.Buffers.{Buffers}
 use Rattle.spread.specs.Loop.{taken-at, TookCell, Ready}
 use Rattle.spread.proofs.Running.{Turn, no-turn, next-turn, ran}
 use Rattle.spread.proofs.Tracing.{none-taken, next-taken}
-use Rattle.sums.specs.Gain.{added-mark, Gained, Reached, GainedCell, Gaining, GainedAll}
+use Rattle.sums.specs.Gain.{added-mark, Gained, InAnswer, GainedCell, Gaining, GainedAll}
 
 -- ---- one cell
 
@@ -35,7 +35,7 @@ gain-last :
 unfolding gain
 gain-last amount start cells c = foldl-append (λ answer c. set answer c (add binary32 (getD answer c plus-zero) amount)) start cells (c ∷ [])
 
-module _ {cell : ℕ} {distance budget amount : Float} {answer : List Float} {added : List ℕ} (reached : Reached cell answer added) where
+module _ {cell : ℕ} {distance budget amount : Float} {answer : List Float} {added : List ℕ} (reached : InAnswer cell answer added) where
   -- A cell that is within the budget and not marked gains, and is marked.
   pub gains-now :
       (le distance budget && not (eqb (getD added cell 0) added-mark)) ≡ true
@@ -107,7 +107,7 @@ module _ {search : Search} {ground : Terrain} {amount : Float} {start : List Flo
       {b : Buffers} {answer : List Float} {added : List ℕ} {r : ℕ} (at : GainTurn search ground amount start before b answer added r)
       {says : Bool} (empty : SaysEmpty (b .ring) says)
     where
-      pub gain-reaches : {after : Buffers} {took : Took} → TookCell search ground b after took → Reached (took .cell) answer added
+      pub gain-reaches : {after : Buffers} {took : Took} → TookCell search ground b after took → InAnswer (took .cell) answer added
       gain-reaches takes = record { in-answer = rw (at .answer-length) (takes .inside); in-added = rw (at .added-length) (takes .inside) }
 
       -- The taken cell is the last of those taken so far, and is looked at last.

@@ -24,7 +24,7 @@ pub record Gained (amount : Float) (start answer : List Float) (added cells : Li
   pub marked : (c : ℕ) → c < length added → eqb (getD added c 0) added-mark ≡ among c cells
 
 -- A cell of the answer was taken.
-pub record Reached (cell : ℕ) (answer : List Float) (added : List ℕ) : Type 0 where
+pub record InAnswer (cell : ℕ) (answer : List Float) (added : List ℕ) : Type 0 where
   pub in-answer : cell < length answer
   pub in-added : cell < length added
 

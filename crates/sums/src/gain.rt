@@ -10,7 +10,7 @@ ghost use lib.Ieee as Ieee;
 ghost use Rattle.spread.specs.Steps.{terrain};
 ghost use Rattle.spread.specs.Buffers.{buffers};
 ghost use Rattle.sums.specs.Gain as gains;
-ghost use Rattle.sums.specs.Gain.{Reached, GainedCell, Gaining, GainedAll};
+ghost use Rattle.sums.specs.Gain.{InAnswer, GainedCell, Gaining, GainedAll};
 
 // The mark of a cell that has gained the amount.
 pub const ADDED: u8 = 1;
@@ -31,7 +31,7 @@ fn gain_cell(
     answer: &mut [f32],
     added: &mut [u8],
 )
-    requires { ⌜ Reached cell (now answer) (now added) ⌝ }
+    requires { ⌜ InAnswer cell (now answer) (now added) ⌝ }
     ensures { λ _. ⌜ GainedCell cell distance budget amount (now (answer .entry)) (now (added .entry)) (now (answer .exit)) (now (added .exit)) ⌝ }
 {
     let at = cell as usize;

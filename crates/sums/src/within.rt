@@ -33,6 +33,7 @@ fn leave_answer(found: Found, answer: &mut [f32]) -> Answer
 }
 
 // The sums once no test refuses: each mask cell gets the sum of what is within its reach, and the work buffers are left zero.
+// Inside, the slice `adjacent` notes which cells are listed and then which were added beside them, and is called `met`.
 fn sum_mask(
     size: Size,
     mask: &[u8],
