@@ -6,11 +6,11 @@ use borrow.Author.Tests.{ne-eqb}
 use lib.Ieee.{Float}
 use lib.ListN.{length}
 use Rattle.rules.specs.declared.Size.{Size}
-use Rattle.rules.specs.Sizes.{Outcome}
+use Rattle.rules.specs.Sizes.{grid, Outcome}
 use Rattle.rules.specs.Distances.{outcome-1, outcome-2, outcome-3}
 use Rattle.rules.specs.Values.{outcome-4, outcome-5, outcome-6}
 use Rattle.rules.specs.Sums.{outcome-7, outcome-8}
-use Rattle.calls.specs.Given.{grid, lent}
+use Rattle.calls.specs.Given.{lent}
 use Rattle.gridfile.specs.declared.request.Request.{Request}
 use Rattle.answer.specs.Answering.{searched}
 use Rattle.answer.specs.Lending.{Lends, found}

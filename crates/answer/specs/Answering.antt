@@ -8,11 +8,11 @@ use lib.ListN.{length, replicate}
 use Rattle.rules.specs.declared.BarrierDiagonals.{BarrierDiagonals}
 use Rattle.rules.specs.declared.Size.{Size}
 use Rattle.rules.specs.declared.Spacing.{Spacing}
-use Rattle.rules.specs.Sizes.{Lent, Outcome, refused, count}
+use Rattle.rules.specs.Sizes.{grid, Lent, Outcome, refused, count}
 use Rattle.rules.specs.Distances.{outcome-1, outcome-2, outcome-3}
 use Rattle.rules.specs.Values.{outcome-4, outcome-5, outcome-6}
 use Rattle.rules.specs.Sums.{outcome-7, outcome-8}
-use Rattle.calls.specs.Given.{grid, lent}
+use Rattle.calls.specs.Given.{lent}
 use Rattle.gridfile.specs.Contents.{Asked, refuses, asks, asked}
 use Rattle.gridfile.specs.Answers.{Written, answer-file}
 

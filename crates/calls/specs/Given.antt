@@ -1,12 +1,7 @@
 -- What a call is given, as the rules speak of it. Definitions only.
 use mathlib.Core.List.{List}
 use Prim.Native.Nat.{ℕ}
-use Rattle.rules.specs.declared.Size.{Size}
-use Rattle.rules.specs.Sizes.{Grid, Lent}
-
--- An input grid, by its size and its slice.
-abbrev pub grid : {A : Type 0} → Size → List A → Grid A
-grid size cells = record { size = size; cells = cells }
+use Rattle.rules.specs.Sizes.{Lent}
 
 -- The lengths of the answer and of the work buffers, and that of the queue.
 abbrev pub lent : List ℕ → ℕ → Lent

@@ -13,7 +13,8 @@ use rules::Spacing;
 ghost use mathlib.Core.Path.{_≡_};
 ghost use Rattle.rules.specs.Distances.{refusals-1, refusals-2, refusals-3};
 ghost use Rattle.calls.specs.Answer.{judged-as};
-ghost use Rattle.calls.specs.Given.{grid, lent};
+ghost use Rattle.rules.specs.Sizes.{grid};
+ghost use Rattle.calls.specs.Given.{lent};
 
 // Search 1, `distances_up_to`.
 pub fn judge_1(

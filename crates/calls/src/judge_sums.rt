@@ -8,7 +8,8 @@ use rules::Size;
 ghost use mathlib.Core.Path.{_≡_};
 ghost use Rattle.rules.specs.Sums.{refusals-7, refusals-8};
 ghost use Rattle.calls.specs.Answer.{judged-as};
-ghost use Rattle.calls.specs.Given.{grid, lent};
+ghost use Rattle.rules.specs.Sizes.{grid};
+ghost use Rattle.calls.specs.Given.{lent};
 
 // Search 7, `sum_within_travel_distance`. Refusal 7 is given only once the search runs.
 pub fn judge_7(

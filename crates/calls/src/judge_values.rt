@@ -9,7 +9,8 @@ use rules::Size;
 ghost use mathlib.Core.Path.{_≡_};
 ghost use Rattle.rules.specs.Values.{refusals-4, refusals-5, refusals-6};
 ghost use Rattle.calls.specs.Answer.{judged-as};
-ghost use Rattle.calls.specs.Given.{grid, lent};
+ghost use Rattle.rules.specs.Sizes.{grid};
+ghost use Rattle.calls.specs.Given.{lent};
 
 // Search 4, `value_at_closest_target`.
 pub fn judge_4(

@@ -14,7 +14,7 @@ use Rattle.rules.specs.declared.BarrierDiagonals.{BarrierDiagonals}
 use Rattle.rules.specs.declared.Size.{Size}
 use Rattle.rules.specs.declared.Spacing.{Spacing}
 use Rattle.rules.specs.Numbers.{infinity}
-use Rattle.rules.specs.Sizes.{Judged, count}
+use Rattle.rules.specs.Sizes.{grid, Judged, count}
 use Rattle.rules.specs.Distances.{scaled, target, target-data, plain, free, with-obstacles, both-data, travel, refusals-1, refusals-2, refusals-3, outcome-1, outcome-2, outcome-3}
 use Rattle.rules.specs.Paths.{HoldsLeastSums}
 use Rattle.rules.proofs.Inputs.{AcceptedTimes, infinity-fits}
@@ -23,7 +23,6 @@ use Rattle.rules.proofs.Nets.{plain-laws, obstacles-laws, travel-laws}
 use Rattle.rules.proofs.LeastSums.{least-sums-1, least-sums-2, least-sums-3}
 use Rattle.calls.specs.declared.answer.Answer.{Answer}
 use Rattle.calls.specs.Answer.{takes, told}
-use Rattle.calls.specs.Given.{grid}
 use Rattle.calls.specs.Promise.{Slice}
 use Rattle.calls.proofs.Promises.{Found, accepted-found}
 use Rattle.distances.specs.Promise.{lengths, DistancesUpTo, Distance, DistanceWithObstacles, TravelDistancesUpTo, TravelDistance}

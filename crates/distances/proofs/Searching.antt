@@ -10,14 +10,14 @@ use Rattle.fifo.specs.Machine.{finish, takes-of}
 use Rattle.rules.specs.declared.BarrierDiagonals.{BarrierDiagonals}
 use Rattle.rules.specs.declared.Size.{Size}
 use Rattle.rules.specs.declared.Spacing.{Spacing}
-use Rattle.rules.specs.Sizes.{Lent, accepted, passes, in-bounds, count}
+use Rattle.rules.specs.Sizes.{grid, Lent, accepted, passes, in-bounds, count}
 use Rattle.rules.specs.Distances.{scaled, plain, with-obstacles, travel, refusals-1, refusals-2, refusals-3}
 use Rattle.rules.proofs.Accepted.{accepted-1, accepted-3}
 use Rattle.rules.proofs.Nets.{plain-laws, obstacles-laws, travel-laws}
 use Rattle.calls.specs.declared.answer.Answer.{Answer}
 use Rattle.calls.specs.declared.answer.Answer.the-variants.{Accepted}
 use Rattle.calls.specs.Answer.{takes}
-use Rattle.calls.specs.Given.{grid, lent}
+use Rattle.calls.specs.Given.{lent}
 use Rattle.calls.specs.Promise.{Slice, slice, Promised}
 use Rattle.calls.proofs.Shapes.{shaped}
 use Rattle.spread.specs.declared.search.Rule.the-variants.{Plain, Obstacles, HalfSum}

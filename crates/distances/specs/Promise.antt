@@ -10,11 +10,11 @@ use Rattle.binary32.specs.Numbers.{plus-zero}
 use Rattle.rules.specs.declared.Size.{Size}
 use Rattle.rules.specs.declared.Spacing.{Spacing}
 use Rattle.rules.specs.declared.BarrierDiagonals.{BarrierDiagonals}
-use Rattle.rules.specs.Sizes.{Lent, Outcome, accepted}
+use Rattle.rules.specs.Sizes.{grid, Lent, Outcome, accepted}
 use Rattle.rules.specs.Numbers.{infinity}
 use Rattle.rules.specs.Distances.{scaled, outcome-1, outcome-2, outcome-3}
 use Rattle.calls.specs.declared.answer.Answer.{Answer}
-use Rattle.calls.specs.Given.{grid, lent}
+use Rattle.calls.specs.Given.{lent}
 use Rattle.calls.specs.Promise.{Slice, Promised}
 use Rattle.spread.specs.declared.search.Search.{Search}
 use Rattle.spread.specs.Nets.{Grids, net-of, carries}

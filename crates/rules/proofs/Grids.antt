@@ -10,6 +10,7 @@ use Rattle.binary32.specs.Steps.{diagonal}
 use Rattle.binary32.specs.Numbers.{plus-zero, one}
 use Rattle.rules.specs.declared.BarrierDiagonals.the-variants.{Include, Exclude}
 use Rattle.rules.specs.Numbers.{infinity, whole}
+use Rattle.rules.specs.Sizes as sizes
 use Rattle.rules.specs.Sizes.{Size, Grid, Spacing, in-bounds, Lent, Refusal, number, number-at, Outcome, refused, accepted}
 use Rattle.rules.specs.Computing.{rules-computing}
 use Rattle.rules.specs.Distances.{outcome-1, outcome-2, outcome-3}
@@ -41,8 +42,11 @@ abbrev pub all-said : List Entry → List Said
 all-said [] = []
 all-said ((outcome, said) ∷ rest) = said ∷ all-said rest
 
+abbrev pub rows-by-cols : ℤ → ℤ → Size
+rows-by-cols rows cols = record { rows = rows; cols = cols }
+
 abbrev pub grid : {A : Type 0} → ℕ → ℕ → List A → Grid A
-grid rows cols cells = record { size = record { rows = pos rows; cols = pos cols }; cells = cells }
+grid rows cols cells = sizes.grid (rows-by-cols (pos rows) (pos cols)) cells
 
 -- One row.
 abbrev pub row : {A : Type 0} → List A → Grid A
@@ -93,12 +97,17 @@ small-grids = refl
 
 -- ---- what the fifteen don't notice
 
-abbrev pub rows-by-cols : ℤ → ℤ → Size
-rows-by-cols rows cols = record { rows = rows; cols = cols }
-
 -- Sizes that are lent with slices that fit none of them.
 abbrev pub sized : {A : Type 0} → ℤ → ℤ → List A → Grid A
-sized rows cols cells = record { size = rows-by-cols rows cols; cells = cells }
+sized rows cols cells = sizes.grid (rows-by-cols rows cols) cells
+
+-- Neither the cell size nor the limit can be used.
+abbrev pub bad-spacing : Spacing
+bad-spacing = record { «cell_size» = plus-zero; limit = nan }
+
+-- A negative time.
+abbrev pub minus-one : Float
+minus-one = neg one
 
 -- A number so large that 1 more is lost.
 abbrev pub large : Float
@@ -129,22 +138,22 @@ more =
       outcome-3 (row (1 ∷ 0 ∷ 0 ∷ 0 ∷ [])) (row (whole 33554432 ∷ plus-zero ∷ whole 2 ∷ plus-zero ∷ [])) infinity (lent 4 1),
       answer (plus-zero ∷ ofBits binary32 0x4b80_0000 ∷ ofBits binary32 0x4b80_0000 ∷ ofBits binary32 0x4b80_0000 ∷ []),
     ) ∷
-    -- refusals of 1: 1, 3, 4, 5
-    (outcome-1 (sized (pos 0) (pos 32768) []) (spacing infinity) (lent 0 1), refusal (number 1)) ∷
-    (outcome-1 (row (1 ∷ 0 ∷ [])) (spacing infinity) (lent 3 1), refusal (number 3)) ∷
-    (outcome-1 (row (1 ∷ [])) (record { «cell_size» = plus-zero; limit = nan }) (lent 1 1), refusal (number 4)) ∷
+    -- refusals: each entry breaks every later test too, so that it tells the order. Of 1: 1, 3, 4, 5
+    (outcome-1 (sized (pos 0) (pos 32768) []) bad-spacing (lent 1 1), refusal (number 1)) ∷
+    (outcome-1 (row (1 ∷ 0 ∷ [])) bad-spacing (lent 3 1), refusal (number 3)) ∷
+    (outcome-1 (row (1 ∷ [])) bad-spacing (lent 1 1), refusal (number 4)) ∷
     (outcome-1 (row (1 ∷ [])) (spacing nan) (lent 1 1), refusal (number 5)) ∷
     -- of 2: 1, 2, 3, 4, and no limit is refused
-    (outcome-2 (sized (pos 1025) (pos 1024) []) (sized (pos 1025) (pos 1024) []) (spacing nan) Include (lent 0 1), refusal (number 1)) ∷
-    (outcome-2 (grid 2 3 []) (grid 3 2 []) (spacing nan) Include (lent 0 1), refusal (number 2)) ∷
-    (outcome-2 (row (1 ∷ [])) (row (0 ∷ 0 ∷ [])) (spacing nan) Include (lent 1 1), refusal (number 2)) ∷
-    (outcome-2 (row (1 ∷ [])) (grid 1 1 (0 ∷ 0 ∷ [])) (spacing nan) Include (lent 1 1), refusal (number 3)) ∷
+    (outcome-2 (sized (pos 1025) (pos 1024) []) (row []) bad-spacing Include (lent 0 1), refusal (number 1)) ∷
+    (outcome-2 (grid 2 3 []) (grid 3 2 []) bad-spacing Include (lent 0 1), refusal (number 2)) ∷
+    (outcome-2 (row (1 ∷ [])) (row (0 ∷ 0 ∷ [])) bad-spacing Include (lent 1 1), refusal (number 2)) ∷
+    (outcome-2 (row (1 ∷ [])) (grid 1 1 (0 ∷ 0 ∷ [])) bad-spacing Include (lent 1 1), refusal (number 3)) ∷
     (outcome-2 (row (1 ∷ [])) (row (0 ∷ [])) (record { «cell_size» = infinity; limit = nan }) Include (lent 1 1), refusal (number 4)) ∷
     (outcome-2 (row (1 ∷ [])) (row (0 ∷ [])) (spacing nan) Include (lent 1 1), takes-and-answer 1 (plus-zero ∷ [])) ∷
     -- of 3: 1, 2, 3, 5, 6 with the first index
-    (outcome-3 (sized (negsuc 0) (pos 1) []) (sized (negsuc 0) (pos 1) []) nan (lent 0 1), refusal (number 1)) ∷
-    (outcome-3 (grid 0 3 []) (grid 3 0 []) nan (lent 0 1), refusal (number 2)) ∷
-    (outcome-3 (row (1 ∷ [])) (row (whole 1 ∷ [])) nan (record { slices = 1 ∷ 1 ∷ []; queue = 1 }), refusal (number 3)) ∷
+    (outcome-3 (sized (negsuc 0) (pos 1) []) (row (minus-one ∷ [])) nan (lent 0 1), refusal (number 1)) ∷
+    (outcome-3 (grid 0 3 []) (grid 3 0 (minus-one ∷ [])) nan (lent 0 1), refusal (number 2)) ∷
+    (outcome-3 (row (1 ∷ [])) (row (minus-one ∷ [])) nan (record { slices = 1 ∷ 1 ∷ []; queue = 1 }), refusal (number 3)) ∷
     (outcome-3 (row (1 ∷ [])) (row (inf true ∷ [])) nan (lent 1 1), refusal (number 5)) ∷
     (outcome-3 (row (1 ∷ 0 ∷ 0 ∷ [])) (row (nan ∷ inf true ∷ inf true ∷ [])) (inf true) (lent 3 1), refusal (number-at 6 1)) ∷
     -- of 4: 1, 2, 3
@@ -153,31 +162,31 @@ more =
     (outcome-4 (row (1 ∷ [])) (row (nan ∷ [])) (lent 1 0), takes-and-answer 1 (nan ∷ [])) ∷
     (outcome-4 (row (1 ∷ [])) (row (nan ∷ [])) (lent 0 2), refusal (number 3)) ∷
     -- of 5: 1, 2, 3, 6
-    (outcome-5 (row []) (row []) (sized (pos 32768) (pos 0) []) (lent 0 2), refusal (number 1)) ∷
-    (outcome-5 (row (1 ∷ [])) (row (whole 1 ∷ [])) (row []) (lent 1 2), refusal (number 2)) ∷
-    (outcome-5 (row (1 ∷ [])) (grid 1 1 []) (row (whole 1 ∷ [])) (lent 1 2), refusal (number 3)) ∷
-    (outcome-5 (row (1 ∷ [])) (row (neg (whole 1) ∷ [])) (row (whole 1 ∷ [])) (lent 1 2), refusal (number-at 6 0)) ∷
+    (outcome-5 (row []) (row (minus-one ∷ [])) (sized (pos 32768) (pos 0) []) (lent 0 2), refusal (number 1)) ∷
+    (outcome-5 (row (1 ∷ [])) (row (minus-one ∷ [])) (row []) (lent 1 2), refusal (number 2)) ∷
+    (outcome-5 (row (1 ∷ [])) (row (minus-one ∷ [])) (grid 1 1 []) (lent 1 2), refusal (number 3)) ∷
+    (outcome-5 (row (1 ∷ [])) (row (minus-one ∷ [])) (row (whole 1 ∷ [])) (lent 1 2), refusal (number-at 6 0)) ∷
     -- of 6: 1, 2, 3, 5, 6; -0.0 is no negative time
-    (outcome-6 (sized (pos 0) (negsuc 0) []) (row []) (row []) nan (lent 0 2), refusal (number 1)) ∷
-    (outcome-6 (row []) (row (whole 1 ∷ [])) (row []) nan (lent 0 2), refusal (number 2)) ∷
-    (outcome-6 (row []) (row []) (row []) nan (record { slices = 0 ∷ 0 ∷ 0 ∷ []; queue = 0 }), refusal (number 3)) ∷
-    (outcome-6 (row []) (row []) (row []) nan (lent 0 2), refusal (number 5)) ∷
-    (outcome-6 (row (1 ∷ 0 ∷ [])) (row (neg plus-zero ∷ neg (whole 1) ∷ [])) (row (whole 1 ∷ whole 1 ∷ [])) (inf true) (lent 2 2), refusal (number-at 6 1)) ∷
-    -- of 7: 1, 2, 3, 5 (NaN, 0, -0.0), 6, and 7 with the first mask cell in row order
-    (outcome-7 (sized (pos 0) (pos 32768) []) (row []) (row []) nan false (lent 0 4), refusal (number 1)) ∷
-    (outcome-7 (row []) (row []) (row (nan ∷ [])) nan false (lent 0 4), refusal (number 2)) ∷
-    (outcome-7 (row []) (row []) (row []) nan false (lent 1 4), refusal (number 3)) ∷
-    (outcome-7 (row []) (row []) (row []) nan false (lent 0 4), refusal (number 5)) ∷
-    (outcome-7 (row []) (row []) (row []) plus-zero false (lent 0 4), refusal (number 5)) ∷
-    (outcome-7 (row (1 ∷ [])) (row (neg (whole 1) ∷ [])) (row (nan ∷ [])) (neg plus-zero) false (lent 1 4), refusal (number 5)) ∷
-    (outcome-7 (row (0 ∷ [])) (row (neg (whole 1) ∷ [])) (row (nan ∷ [])) infinity false (lent 1 4), refusal (number-at 6 0)) ∷
+    (outcome-6 (sized (pos 0) (negsuc 0) []) (row (minus-one ∷ [])) (row []) nan (lent 0 2), refusal (number 1)) ∷
+    (outcome-6 (row []) (row (minus-one ∷ [])) (row []) nan (lent 0 2), refusal (number 2)) ∷
+    (outcome-6 (row (1 ∷ [])) (row (minus-one ∷ [])) (row (nan ∷ [])) nan (record { slices = 1 ∷ 1 ∷ 1 ∷ []; queue = 0 }), refusal (number 3)) ∷
+    (outcome-6 (row (1 ∷ [])) (row (minus-one ∷ [])) (row (nan ∷ [])) nan (lent 1 2), refusal (number 5)) ∷
+    (outcome-6 (row (1 ∷ 0 ∷ [])) (row (neg plus-zero ∷ minus-one ∷ [])) (row (whole 1 ∷ whole 1 ∷ [])) (inf true) (lent 2 2), refusal (number-at 6 1)) ∷
+    -- of 7: 1, 2, 3, 5 (NaN, 0, -0.0), 6 where 7 would be too, and 7 with the first mask cell in row order
+    (outcome-7 (sized (pos 0) (pos 32768) []) (row (minus-one ∷ [])) (row []) nan false (lent 0 4), refusal (number 1)) ∷
+    (outcome-7 (row []) (row (minus-one ∷ [])) (row (nan ∷ [])) nan false (lent 0 4), refusal (number 2)) ∷
+    (outcome-7 (row (1 ∷ [])) (row (minus-one ∷ [])) (row (nan ∷ [])) nan false (lent 0 4), refusal (number 3)) ∷
+    (outcome-7 (row (1 ∷ [])) (row (minus-one ∷ [])) (row (nan ∷ [])) nan false (lent 1 4), refusal (number 5)) ∷
+    (outcome-7 (row (1 ∷ [])) (row (minus-one ∷ [])) (row (nan ∷ [])) plus-zero false (lent 1 4), refusal (number 5)) ∷
+    (outcome-7 (row (1 ∷ [])) (row (minus-one ∷ [])) (row (nan ∷ [])) (neg plus-zero) false (lent 1 4), refusal (number 5)) ∷
+    (outcome-7 (row (1 ∷ 0 ∷ 0 ∷ [])) (row (whole 2 ∷ whole 4 ∷ minus-one ∷ [])) (row (nan ∷ nan ∷ nan ∷ [])) (half 5) false (lent 3 4), refusal (number-at 6 2)) ∷
     (outcome-7 (row (0 ∷ 1 ∷ 1 ∷ [])) (row (plus-zero ∷ whole 4 ∷ whole 4 ∷ [])) (row (nan ∷ nan ∷ nan ∷ [])) (whole 3) true (lent 3 4), refusal (number-at 7 1)) ∷
     -- of 8: 1, 2, 3, 5, 6
-    (outcome-8 (sized (pos 1025) (pos 1024) []) (row []) nan (lent 0 3), refusal (number 1)) ∷
-    (outcome-8 (row []) (row (nan ∷ [])) nan (lent 0 3), refusal (number 2)) ∷
-    (outcome-8 (row (nan ∷ [])) (grid 1 1 []) nan (lent 1 3), refusal (number 3)) ∷
-    (outcome-8 (row (nan ∷ [])) (row (nan ∷ [])) (neg (whole 1)) (lent 1 3), refusal (number 5)) ∷
-    (outcome-8 (row (nan ∷ neg (whole 1) ∷ [])) (row (nan ∷ nan ∷ [])) infinity (lent 2 3), refusal (number-at 6 1)) ∷
+    (outcome-8 (sized (pos 1025) (pos 1024) (minus-one ∷ [])) (row []) nan (lent 0 3), refusal (number 1)) ∷
+    (outcome-8 (row (minus-one ∷ [])) (row []) nan (lent 1 3), refusal (number 2)) ∷
+    (outcome-8 (row (minus-one ∷ [])) (grid 1 1 []) nan (lent 1 3), refusal (number 3)) ∷
+    (outcome-8 (row (minus-one ∷ [])) (row (nan ∷ [])) minus-one (lent 1 3), refusal (number 5)) ∷
+    (outcome-8 (row (nan ∷ minus-one ∷ [])) (row (nan ∷ nan ∷ [])) infinity (lent 2 3), refusal (number-at 6 1)) ∷
     -- the eight neighbours in trying order: any other order loses the 1 in the middle
     (
       outcome-7 (grid 3 3 (0 ∷ 0 ∷ 0 ∷ 0 ∷ 1 ∷ 0 ∷ 0 ∷ 0 ∷ 0 ∷ [])) (grid 3 3 (replicate 9 (whole 1)))

@@ -18,6 +18,9 @@ pub record Grid (A : Type 0) : Type 0 where
   pub size : Size
   pub cells : List A
 
+abbrev pub grid : {A : Type 0} → Size → List A → Grid A
+grid size cells = record { size = size; cells = cells }
+
 -- Each side is 0 to 32,767.
 abbrev pub side-fits : ℤ → Bool
 side-fits k = leZ (pos 0) k && leZ k (pos 32767)

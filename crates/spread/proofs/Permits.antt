@@ -18,13 +18,13 @@ use Rattle.cells.proofs.Bounds.{Bounded, bounded, read, side-read, cast-is}
 use Rattle.fifo.proofs.Lists.{same-or-not}
 use Rattle.rules.specs.declared.BarrierDiagonals.the-variants.{Include, Exclude}
 use Rattle.rules.specs.declared.Size.{Size}
-use Rattle.rules.specs.Sizes.{Grid, count}
+use Rattle.rules.specs.Sizes.{Grid, grid, count}
 use Rattle.rules.specs.Cells.{index, row-of, col-of}
 use Rattle.rules.specs.Distances.{obstacle, free, blocked}
 use Rattle.spread.specs.declared.search.Rule.{Rule}
 use Rattle.spread.specs.declared.search.Rule.the-variants.{Plain, Obstacles, HalfSum, Closest, ByTime, FromMaskCell, FromAmount}
 use Rattle.spread.specs.Nets.{reads-times}
-use Rattle.spread.specs.Steps.{formula, on, avoids, may-straight, may-diagonal, formula-number, avoided-number, formula-by, may-enter, blocked-by, may-step}
+use Rattle.spread.specs.Steps.{formula, avoids, may-straight, may-diagonal, formula-number, avoided-number, formula-by, may-enter, blocked-by, may-step}
 use Rattle.spread.specs.Steps.{SaysFree, Pair, Crossed, Among, MayAsk}
 
 -- ---- obstacles
@@ -40,7 +40,7 @@ opposite : {answer b : Bool} → answer ≡ not b → not answer ≡ b
 opposite {b = true} e = ap not e
 opposite {b = false} e = ap not e
 
-obstacle-is : {obstacles : List ℕ} {cell : ℕ} {answer : Bool} → SaysFree obstacles cell answer → (size : Size) → obstacle (on size obstacles) cell ≡ not answer
+obstacle-is : {obstacles : List ℕ} {cell : ℕ} {answer : Bool} → SaysFree obstacles cell answer → (size : Size) → obstacle (grid size obstacles) cell ≡ not answer
 obstacle-is free-says size = sym (opposite (free-says .says size))
 
 -- ---- the cell in the row of one cell and the column of another
@@ -86,18 +86,18 @@ module _ {size : Size} {a b : ℕ} (pair : Pair size a b) where
 -- ---- between two obstacles
 
 module _ {size : Size} {obstacles : List ℕ} {u v one : ℕ} (beside : Crossed size u v one) {answer : Bool} (free-says : SaysFree obstacles one answer) where
-  first-is : obstacle (on size obstacles) (index size (row-of size u) (col-of size v)) ≡ not answer
-  first-is = ap (obstacle (on size obstacles)) (sym (beside .at-index)) ∙ obstacle-is free-says size
+  first-is : obstacle (grid size obstacles) (index size (row-of size u) (col-of size v)) ≡ not answer
+  first-is = ap (obstacle (grid size obstacles)) (sym (beside .at-index)) ∙ obstacle-is free-says size
 
-  pub not-between : answer ≡ true → false ≡ blocked Exclude (on size obstacles) u v
-  not-between is-free = sym (ap (λ b. b && obstacle (on size obstacles) (index size (row-of size v) (col-of size u))) (first-is ∙ ap not is-free))
+  pub not-between : answer ≡ true → false ≡ blocked Exclude (grid size obstacles) u v
+  not-between is-free = sym (ap (λ b. b && obstacle (grid size obstacles) (index size (row-of size v) (col-of size u))) (first-is ∙ ap not is-free))
 
   pub between-if :
       {other : ℕ} {answer′ : Bool} → answer ≡ false → Crossed size v u other → SaysFree obstacles other answer′
-      → not answer′ ≡ blocked Exclude (on size obstacles) u v
+      → not answer′ ≡ blocked Exclude (grid size obstacles) u v
   between-if closed beside′ free-says′ =
-      sym (ap (λ b. b && obstacle (on size obstacles) (index size (row-of size v) (col-of size u))) (first-is ∙ ap not closed)
-      ∙ ap (obstacle (on size obstacles)) (sym (beside′ .at-index)) ∙ obstacle-is free-says′ size)
+      sym (ap (λ b. b && obstacle (grid size obstacles) (index size (row-of size v) (col-of size u))) (first-is ∙ ap not closed)
+      ∙ ap (obstacle (grid size obstacles)) (sym (beside′ .at-index)) ∙ obstacle-is free-says′ size)
 
 -- ---- the rules by their numbers
 
@@ -168,7 +168,7 @@ reads-by (FromAmount origin) e = refl
 pub entered-anywhere : (n : ℕ) (obstacles : Grid ℕ) (v : ℕ) → n ≡ 0 → true ≡ may-enter n obstacles v
 entered-anywhere n obstacles v nothing = rw nothing
 
-pub entered-if-free : (n : ℕ) {obstacles : List ℕ} {v : ℕ} {answer : Bool} → (n ≡ 0 → ⊥) → SaysFree obstacles v answer → (size : Size) → answer ≡ may-enter n (on size obstacles) v
+pub entered-if-free : (n : ℕ) {obstacles : List ℕ} {v : ℕ} {answer : Bool} → (n ≡ 0 → ⊥) → SaysFree obstacles v answer → (size : Size) → answer ≡ may-enter n (grid size obstacles) v
 entered-if-free n some free-says size = rw (ne-eqb n 0 some) (free-says .says size)
 
 pub asked : {avoided : ℕ} {size : Size} {obstacles : List ℕ} {u v : ℕ} → MayAsk avoided size obstacles u v → avoided ≡ 2 → Among size obstacles u v

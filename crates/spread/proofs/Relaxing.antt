@@ -9,11 +9,12 @@ use Rattle.cells.specs.declared.ring.Ring.{Ring}
 use Rattle.fifo.specs.Machine.{Net, State, joined, label, store}
 use Rattle.fifo.proofs.Induction.{labels-store, waiting-store, relax-stores, relax-leaves}
 use Rattle.rules.specs.Values.{Carried, nearer}
+use Rattle.rules.specs.Sizes.{grid}
 use Rattle.spread.specs.declared.search.Rule.{Rule}
 use Rattle.spread.specs.declared.search.Search.{Search}
 use Rattle.spread.specs.declared.relax.Left.{Left}
 use Rattle.spread.specs.Nets.{sized, carries, labels-of}
-use Rattle.spread.specs.Steps.{formula, entering, labelled, on, formula-number, formula-by, length-of}
+use Rattle.spread.specs.Steps.{formula, entering, labelled, formula-number, formula-by, length-of}
 use Rattle.spread.specs.Waiting.{Waiting, Joining, Joined}
 use Rattle.spread.specs.Buffers.{Buffers, buffers, Holds, Does, storing, relaxing, carried-on}
 use Rattle.spread.specs.Loop.{left-label, Trying, Storing, Stored}
@@ -113,10 +114,10 @@ module _ {search : Search} {v : ℕ} {b : Buffers} (tries : Trying search v b) {
 pub formed-as :
     (search : Search) (times : List Float) {n : ℕ} → n ≡ formula-number (search .rule)
     → (diagonally : Bool) {step : Float} → step ≡ length-of diagonally
-    → (u v : ℕ) (d : Float) {new : Float} → new ≡ formula-by n (on (search .size) times) u step v d
+    → (u v : ℕ) (d : Float) {new : Float} → new ≡ formula-by n (grid (search .size) times) u step v d
     → new ≡ formula (search .rule) (sized search times) u (length-of diagonally) v d
 formed-as search times numbered diagonally {step} long u v d formed =
     formed
-    ∙ ap (λ m. formula-by m (on (search .size) times) u step v d) numbered
-    ∙ ap (λ s. formula-by (formula-number (search .rule)) (on (search .size) times) u s v d) long
+    ∙ ap (λ m. formula-by m (grid (search .size) times) u step v d) numbered
+    ∙ ap (λ s. formula-by (formula-number (search .rule)) (grid (search .size) times) u s v d) long
     ∙ formed-by (search .rule) (sized search times) u (length-of diagonally) v d

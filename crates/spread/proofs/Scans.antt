@@ -14,10 +14,11 @@ use Rattle.fifo.specs.Machine.{Net, State, scan}
 use Rattle.fifo.proofs.Induction.{scan-append}
 use Rattle.rules.specs.Cells.{keep, over}
 use Rattle.rules.specs.Values.{Carried}
+use Rattle.rules.specs.Sizes.{grid}
 use Rattle.spread.specs.declared.search.Rule.{Rule}
 use Rattle.spread.specs.declared.search.Search.{Search}
 use Rattle.spread.specs.declared.relax.Left.{Left}
-use Rattle.spread.specs.Steps.{Terrain, on, entering, may-straight, may-diagonal, avoided-number, Numbers, numbers-of, may-enter, blocked-by, may-step, length-of}
+use Rattle.spread.specs.Steps.{Terrain, entering, may-straight, may-diagonal, avoided-number, Numbers, numbers-of, may-enter, blocked-by, may-step, length-of}
 use Rattle.spread.specs.Steps.{straight-steps, diagonal-steps, steps-by, MayAsk, Timed}
 use Rattle.spread.specs.Buffers.{Buffers, Good, Holds, Does, relaxing, scanning}
 use Rattle.spread.specs.Loop.{left-label, listed-steps, Entering, Scanning}
@@ -71,7 +72,7 @@ pub straight-append :
     → straight-steps search ground u (l ++ m) ≡ straight-steps search ground u l ++ straight-steps search ground u m
 unfolding straight-steps
 straight-append search ground u l m =
-    let test = may-straight (search .rule) (on (search .size) (ground .obstacles)) in
+    let test = may-straight (search .rule) (grid (search .size) (ground .obstacles)) in
     ap (map (over straight (entering search (ground .times) u))) (keep-append test l m) ∙ map-append _ (keep test l) (keep test m)
 
 pub diagonal-append :
@@ -79,21 +80,21 @@ pub diagonal-append :
     → diagonal-steps search ground u (l ++ m) ≡ diagonal-steps search ground u l ++ diagonal-steps search ground u m
 unfolding diagonal-steps
 diagonal-append search ground u l m =
-    let test = may-diagonal (search .rule) (on (search .size) (ground .obstacles)) u in
+    let test = may-diagonal (search .rule) (grid (search .size) (ground .obstacles)) u in
     ap (map (over diagonal (entering search (ground .times) u))) (keep-append test l m) ∙ map-append _ (keep test l) (keep test m)
 
 -- ---- one cell
 
 module _ (search : Search) (ground : Terrain) (u v : ℕ) where
   straight-one :
-      (may : Bool) → may-straight (search .rule) (on (search .size) (ground .obstacles)) v ≡ may
+      (may : Bool) → may-straight (search .rule) (grid (search .size) (ground .obstacles)) v ≡ may
       → straight-steps search ground u (v ∷ []) ≡ cond may ((v, entering search (ground .times) u straight v) ∷ []) []
   unfolding straight-steps keep
   straight-one true may = ap (λ b. map (over straight (entering search (ground .times) u)) (cond b (v ∷ []) [])) may
   straight-one false may = ap (λ b. map (over straight (entering search (ground .times) u)) (cond b (v ∷ []) [])) may
 
   diagonal-one :
-      (may : Bool) → may-diagonal (search .rule) (on (search .size) (ground .obstacles)) u v ≡ may
+      (may : Bool) → may-diagonal (search .rule) (grid (search .size) (ground .obstacles)) u v ≡ may
       → diagonal-steps search ground u (v ∷ []) ≡ cond may ((v, entering search (ground .times) u diagonal v) ∷ []) []
   unfolding diagonal-steps keep
   diagonal-one true may = ap (λ b. map (over diagonal (entering search (ground .times) u)) (cond b (v ∷ []) [])) may
@@ -118,18 +119,18 @@ module _ (search : Search) (ground : Terrain) (left : Left) (v : ℕ) (diagonall
   step-there = entering search (ground .times) (left .cell) (length-of diagonally) v
 
   one-step :
-      (kind may : Bool) → kind ≡ diagonally → may-step n kind (on (search .size) (ground .obstacles)) (left .cell) v ≡ may
+      (kind may : Bool) → kind ≡ diagonally → may-step n kind (grid (search .size) (ground .obstacles)) (left .cell) v ≡ may
       → steps-by search ground kind (left .cell) (v ∷ []) ≡ cond may ((v, entering search (ground .times) (left .cell) (length-of kind) v) ∷ []) []
   one-step true may kind is =
       diagonal-one search ground (left .cell) v may
-      (permitted-by (search .rule) true (on (search .size) (ground .obstacles)) (left .cell) v
-      ∙ ap (λ m. may-step m true (on (search .size) (ground .obstacles)) (left .cell) v) (sym numbered) ∙ is)
+      (permitted-by (search .rule) true (grid (search .size) (ground .obstacles)) (left .cell) v
+      ∙ ap (λ m. may-step m true (grid (search .size) (ground .obstacles)) (left .cell) v) (sym numbered) ∙ is)
   one-step false may kind is =
       straight-one search ground (left .cell) v may
-      (permitted-by (search .rule) false (on (search .size) (ground .obstacles)) (left .cell) v
-      ∙ ap (λ m. may-step m false (on (search .size) (ground .obstacles)) (left .cell) v) (sym numbered) ∙ is)
+      (permitted-by (search .rule) false (grid (search .size) (ground .obstacles)) (left .cell) v
+      ∙ ap (λ m. may-step m false (grid (search .size) (ground .obstacles)) (left .cell) v) (sym numbered) ∙ is)
 
-  module _ {entered : Bool} (enters : entered ≡ may-enter n (on (search .size) (ground .obstacles)) v) where
+  module _ {entered : Bool} (enters : entered ≡ may-enter n (grid (search .size) (ground .obstacles)) v) where
     -- A step that is not permitted leads nowhere.
     refused-whatever : (blocks : Bool) → cond blocks false false ≡ false
     refused-whatever true = refl
@@ -141,29 +142,29 @@ module _ (search : Search) (ground : Terrain) (left : Left) (v : ℕ) (diagonall
     not-entered refused =
         none-tried search left
         (one-step diagonally false refl
-        (ap (λ may. cond (blocked-by n diagonally (on (search .size) (ground .obstacles)) (left .cell) v) false may) (sym enters ∙ refused)
-        ∙ refused-whatever (blocked-by n diagonally (on (search .size) (ground .obstacles)) (left .cell) v)))
+        (ap (λ may. cond (blocked-by n diagonally (grid (search .size) (ground .obstacles)) (left .cell) v) false may) (sym enters ∙ refused)
+        ∙ refused-whatever (blocked-by n diagonally (grid (search .size) (ground .obstacles)) (left .cell) v)))
 
     -- A candidate that is not below changes nothing, permitted or not.
     pub not-below :
         {b : Buffers} → Does search (relaxing (left-label search left) v step-there) b b → Good search b
         → Does search (scanning (left-label search left) (steps-by search ground diagonally (left .cell) (v ∷ []))) b b
-    not-below {b} does good = go (may-step n diagonally (on (search .size) (ground .obstacles)) (left .cell) v) refl
+    not-below {b} does good = go (may-step n diagonally (grid (search .size) (ground .obstacles)) (left .cell) v) refl
       where
         go :
-            (may : Bool) → may-step n diagonally (on (search .size) (ground .obstacles)) (left .cell) v ≡ may
+            (may : Bool) → may-step n diagonally (grid (search .size) (ground .obstacles)) (left .cell) v ≡ may
             → Does search (scanning (left-label search left) (steps-by search ground diagonally (left .cell) (v ∷ []))) b b
         go true is = one-tried search left (one-step diagonally true refl is) does
         go false is = none-tried search left (one-step diagonally false refl is) good
 
-    module _ {blocks : Bool} (says : blocks ≡ blocked-by n diagonally (on (search .size) (ground .obstacles)) (left .cell) v) where
+    module _ {blocks : Bool} (says : blocks ≡ blocked-by n diagonally (grid (search .size) (ground .obstacles)) (left .cell) v) where
       pub step-blocked :
           {b : Buffers} → blocks ≡ true → Good search b
           → Does search (scanning (left-label search left) (steps-by search ground diagonally (left .cell) (v ∷ []))) b b
       step-blocked is =
           none-tried search left
           (one-step diagonally false refl
-          (ap (λ blocked. cond blocked false (may-enter n (on (search .size) (ground .obstacles)) v)) (sym says ∙ is)))
+          (ap (λ blocked. cond blocked false (may-enter n (grid (search .size) (ground .obstacles)) v)) (sym says ∙ is)))
 
       pub step-tried :
           {before after : Buffers} → entered ≡ true → blocks ≡ false → Does search (relaxing (left-label search left) v step-there) before after
@@ -171,7 +172,7 @@ module _ (search : Search) (ground : Terrain) (left : Left) (v : ℕ) (diagonall
       step-tried is open-there =
           one-tried search left
           (one-step diagonally true refl
-          (ap (λ blocked. cond blocked false (may-enter n (on (search .size) (ground .obstacles)) v)) (sym says ∙ open-there) ∙ sym enters ∙ is))
+          (ap (λ blocked. cond blocked false (may-enter n (grid (search .size) (ground .obstacles)) v)) (sym says ∙ open-there) ∙ sym enters ∙ is))
 
 -- ---- one cell more
 

@@ -7,7 +7,7 @@ use Prim.Native.Nat.{ℕ}
 use lib.ListN.{getD}
 use lib.Ieee.{Float, nan}
 use Rattle.fifo.specs.Machine.{Net, table}
-use Rattle.rules.specs.Sizes.{Grid, count}
+use Rattle.rules.specs.Sizes.{Grid, grid, count}
 use Rattle.rules.specs.Cells.{moves}
 use Rattle.rules.specs.Distances.{plus-step, plus-half-sum, plain, free, blocked, with-obstacles, travel}
 use Rattle.rules.specs.Values.{Carried, nearer, carrying, closest, plus-time, closest-by-time}
@@ -24,7 +24,7 @@ pub record Grids : Type 0 where
   pub values : List Float
 
 abbrev pub sized : {A : Type 0} → Search → List A → Grid A
-sized search cells = record { size = search .size; cells = cells }
+sized search cells = grid (search .size) cells
 
 -- A net of distances, with other steps, and nothing that goes along.
 abbrev pub stepping : Net Float → (ℕ → List (ℕ × (Carried → Carried))) → Net Carried

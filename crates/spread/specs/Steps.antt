@@ -10,7 +10,7 @@ use Rattle.binary32.specs.Steps.{straight, diagonal}
 use Rattle.fifo.specs.Machine.{Net}
 use Rattle.rules.specs.declared.BarrierDiagonals.the-variants.{Include, Exclude}
 use Rattle.rules.specs.declared.Size.{Size}
-use Rattle.rules.specs.Sizes.{Grid, in-bounds, count}
+use Rattle.rules.specs.Sizes.{Grid, grid, in-bounds, count}
 use Rattle.rules.specs.Cells.{index, row-of, col-of, straight-neighbours, diagonal-neighbours, keep, over}
 use Rattle.rules.specs.Distances.{plus-step, plus-half-sum, free, blocked}
 use Rattle.rules.specs.Values.{Carried, nearer, carrying, plus-time}
@@ -74,9 +74,6 @@ may-diagonal ByTime obstacles u v = true
 may-diagonal (FromMaskCell origin) obstacles u v = true
 may-diagonal (FromAmount origin) obstacles u v = true
 
-abbrev pub on : {A : Type 0} → Size → List A → Grid A
-on size cells = record { size = size; cells = cells }
-
 -- ---- what a rule permits and how it adds, by numbers, which the loop has as constants
 
 abbrev pub formula-number : Rule → ℕ
@@ -133,11 +130,11 @@ length-of diagonally = cond diagonally diagonal straight
 -- The steps from u to those of the cells that may be entered.
 unfoldable pub straight-steps : Search → Terrain → ℕ → List ℕ → List (ℕ × (Carried → Carried))
 straight-steps search ground u vs =
-    map (over straight (entering search (ground .times) u)) (keep (may-straight (search .rule) (on (search .size) (ground .obstacles))) vs)
+    map (over straight (entering search (ground .times) u)) (keep (may-straight (search .rule) (grid (search .size) (ground .obstacles))) vs)
 
 unfoldable pub diagonal-steps : Search → Terrain → ℕ → List ℕ → List (ℕ × (Carried → Carried))
 diagonal-steps search ground u vs =
-    map (over diagonal (entering search (ground .times) u)) (keep (may-diagonal (search .rule) (on (search .size) (ground .obstacles)) u) vs)
+    map (over diagonal (entering search (ground .times) u)) (keep (may-diagonal (search .rule) (grid (search .size) (ground .obstacles)) u) vs)
 
 -- Those of one kind.
 abbrev pub steps-by : Search → Terrain → Bool → ℕ → List ℕ → List (ℕ × (Carried → Carried))
@@ -156,7 +153,7 @@ pub record Follows (search : Search) (ground : Terrain) (net : Net Carried) : Ty
 
 -- The answer says, in a grid of whatever size, whether a cell is free.
 pub record SaysFree (obstacles : List ℕ) (cell : ℕ) (answer : Bool) : Type 0 where
-  pub says : (size : Size) → answer ≡ free (on size obstacles) cell
+  pub says : (size : Size) → answer ≡ free (grid size obstacles) cell
 
 -- Two cells of a grid that is within the bounds.
 pub record Pair (size : Size) (a b : ℕ) : Type 0 where

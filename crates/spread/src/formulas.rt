@@ -8,7 +8,8 @@ ghost use lib.Ieee as Ieee;
 ghost use Rattle.binary32.specs.Nodata.{nodata};
 ghost use Rattle.binary32.specs.Numbers.{two};
 ghost use Rattle.rules.specs.Numbers as number;
-ghost use Rattle.spread.specs.Steps.{on, formula-by, Timed};
+ghost use Rattle.rules.specs.Sizes.{grid};
+ghost use Rattle.spread.specs.Steps.{formula-by, Timed};
 
 // A step of length s further from distance d.
 fn plus_step(d: f32, s: f32) -> f32
@@ -53,7 +54,7 @@ pub const PLUS_TIME_OR_QUARTER: u8 = 3;
 // The distance over a step from the cell that is left to another, by a formula.
 pub fn candidate(formula: u8, times: &[f32], left: Left, step: f32, cell: u32) -> f32
     requires { ⌜ Timed formula (now times) (left .cell) cell ⌝ }
-    ensures { λ r. ⌜ ((size : Size) → r ≡ formula-by formula (on size (now (times .entry))) (left .cell) step cell (left .distance)) ⌝ }
+    ensures { λ r. ⌜ ((size : Size) → r ≡ formula-by formula (grid size (now (times .entry))) (left .cell) step cell (left .distance)) ⌝ }
 {
     let from = left.cell as usize;
     let to = cell as usize;

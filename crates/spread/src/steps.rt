@@ -7,7 +7,8 @@ ghost use Prim.Native.Nat.{_<_};
 ghost use lib.Dec.{eqb};
 ghost use lib.ListN.{length};
 ghost use Rattle.rules.specs.Distances as distance;
-ghost use Rattle.spread.specs.Steps.{on, may-enter, blocked-by, SaysFree, Pair, Crossed, Among, MayAsk};
+ghost use Rattle.rules.specs.Sizes.{grid};
+ghost use Rattle.spread.specs.Steps.{may-enter, blocked-by, SaysFree, Pair, Crossed, Among, MayAsk};
 
 // Whether a cell is no obstacle: its byte is 0.
 fn is_free(obstacles: &[u8], cell: u32) -> bool
@@ -30,7 +31,7 @@ fn crossing(size: Size, row_of: u32, col_of: u32) -> u32
 // Whether both cells beside a diagonal step are obstacles.
 fn is_between_obstacles(size: Size, obstacles: &[u8], from: u32, to: u32) -> bool
     requires { ⌜ Among size (now obstacles) from to ⌝ }
-    ensures { λ r. ⌜ r ≡ distance.blocked BarrierDiagonals.Exclude (on size (now (obstacles .entry))) from to ⌝ }
+    ensures { λ r. ⌜ r ≡ distance.blocked BarrierDiagonals.Exclude (grid size (now (obstacles .entry))) from to ⌝ }
 {
     let one = crossing(size, from, to);
     let other = crossing(size, to, from);
@@ -51,7 +52,7 @@ pub const BETWEEN_OBSTACLES: u8 = 2;
 // Whether a step may enter a cell.
 pub fn may_enter(avoided: u8, obstacles: &[u8], to: u32) -> bool
     requires { ⌜ (eqb avoided 0 ≡ false → to < length (now obstacles)) ⌝ }
-    ensures { λ r. ⌜ ((size : Size) → r ≡ may-enter avoided (on size (now (obstacles .entry))) to) ⌝ }
+    ensures { λ r. ⌜ ((size : Size) → r ≡ may-enter avoided (grid size (now (obstacles .entry))) to) ⌝ }
 {
     if avoided == NOTHING {
         return true;
@@ -69,7 +70,7 @@ pub fn is_blocked(
     to: u32,
 ) -> bool
     requires { ⌜ MayAsk avoided size (now obstacles) from to ⌝ }
-    ensures { λ r. ⌜ r ≡ blocked-by avoided diagonal (on size (now (obstacles .entry))) from to ⌝ }
+    ensures { λ r. ⌜ r ≡ blocked-by avoided diagonal (grid size (now (obstacles .entry))) from to ⌝ }
 {
     if avoided != BETWEEN_OBSTACLES {
         return false;

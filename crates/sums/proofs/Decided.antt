@@ -8,7 +8,7 @@ use lib.Dec.{T}
 use lib.Ieee.{Float, nan, binary32, fits}
 use lib.ListN.{getD}
 use Rattle.rules.specs.declared.Size.{Size}
-use Rattle.rules.specs.Sizes.{Judged, passes, stops, accepted, unless}
+use Rattle.rules.specs.Sizes.{grid, Judged, passes, stops, accepted, unless}
 use Rattle.rules.specs.Sums.{total-takes, from-mask-cell, runs-7, sums, refusals-7, refusal-7, outcome-7, from-amount, runs-8, gains, refusals-8, outcome-8}
 use Rattle.rules.proofs.Inputs.{AcceptedTimes, AcceptedBudget}
 use Rattle.rules.proofs.Accepted.{accepted-7, accepted-8}
@@ -16,7 +16,6 @@ use Rattle.rules.proofs.Squares.{mask-cell-ends, amount-ends}
 use Rattle.rules.proofs.Totals.{total-takes-7, total-takes-8}
 use Rattle.calls.specs.declared.answer.Answer.{Answer}
 use Rattle.calls.specs.Answer.{takes, told, tell}
-use Rattle.calls.specs.Given.{grid}
 use Rattle.calls.specs.Promise.{Slice, slice, Same}
 use Rattle.calls.proofs.Promises.{promise-decides, accepted-found}
 use Rattle.sums.specs.Squares.{WithinSquares}

@@ -9,10 +9,9 @@ use Rattle.binary32.specs.Numbers.{plus-zero}
 use Rattle.fifo.specs.Machine.{joined, finish}
 use Rattle.fifo.proofs.Entries.{entered-as-taken}
 use Rattle.rules.specs.declared.Size.{Size}
-use Rattle.rules.specs.Sizes.{Grid, any, count}
+use Rattle.rules.specs.Sizes.{Grid, grid, any, count}
 use Rattle.rules.specs.Sums.{from-mask-cell, listed, sum-of, add-values, adjacent-cells}
 use Rattle.rules.proofs.Listed.{listed-with-start}
-use Rattle.calls.specs.Given.{grid}
 use Rattle.spread.specs.declared.search.Rule.the-variants.{FromMaskCell}
 use Rattle.spread.specs.declared.search.Search.{Search}
 use Rattle.spread.specs.Steps.{terrain}

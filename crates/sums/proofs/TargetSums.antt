@@ -13,7 +13,7 @@ use Rattle.fifo.specs.Simulation.{Within}
 use Rattle.fifo.proofs.Lists.{tested, holds}
 use Rattle.fifo.proofs.Induction.{takes-stopped}
 use Rattle.rules.specs.declared.Size.{Size}
-use Rattle.rules.specs.Sizes.{Grid, Judged, Lent, Outcome, accepted, passes, unless, count}
+use Rattle.rules.specs.Sizes.{Grid, grid, Judged, Lent, Outcome, accepted, passes, unless, count}
 use Rattle.rules.specs.Distances.{has-data}
 use Rattle.rules.specs.Sums.{total-takes, from-amount, runs-8, gains, refusals-8}
 use Rattle.rules.proofs.Inputs.{AcceptedTimes, AcceptedBudget}
@@ -27,7 +27,7 @@ use Rattle.calls.specs.declared.answer.Judged.the-variants.{Passes, Stops}
 use Rattle.calls.specs.declared.answer.Refusal.{Refusal}
 use Rattle.calls.specs.Answer.{judged-as}
 use Rattle.calls.specs.Answer as told
-use Rattle.calls.specs.Given.{grid, lent}
+use Rattle.calls.specs.Given.{lent}
 use Rattle.calls.specs.Promise.{Slice, slice}
 use Rattle.calls.proofs.Shapes.{shaped}
 use Rattle.calls.proofs.Untouched.{judged-writes, searched-is, buffer-untouched}

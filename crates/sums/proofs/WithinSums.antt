@@ -8,7 +8,7 @@ use lib.Ieee.{Float, nan, binary32, fits}
 use lib.ListN.{length, getD, replicate, length-replicate}
 use Rattle.binary32.specs.Numbers.{plus-zero}
 use Rattle.rules.specs.declared.Size.{Size}
-use Rattle.rules.specs.Sizes.{Judged, Lent, Outcome, accepted, passes, unless}
+use Rattle.rules.specs.Sizes.{grid, Judged, Lent, Outcome, accepted, passes, unless}
 use Rattle.rules.specs.Sums.{total-takes, from-mask-cell, runs-7, sums, refusals-7, refusal-7}
 use Rattle.rules.proofs.Accepted.{accepted-7}
 use Rattle.rules.proofs.Nets.{mask-cell-laws}
@@ -19,7 +19,7 @@ use Rattle.calls.specs.declared.answer.Judged.the-variants.{Passes, Stops}
 use Rattle.calls.specs.declared.answer.Refusal.{Refusal}
 use Rattle.calls.specs.declared.answer.Refusal.the-variants.{OverBudget}
 use Rattle.calls.specs.Answer.{judged-as, tell, answer-after, buffer-after}
-use Rattle.calls.specs.Given.{grid, lent}
+use Rattle.calls.specs.Given.{lent}
 use Rattle.calls.specs.Promise.{Slice, slice}
 use Rattle.calls.proofs.Shapes.{shaped}
 use Rattle.calls.proofs.Untouched.{judged-writes, searched-is, buffer-untouched}

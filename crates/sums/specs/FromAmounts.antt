@@ -10,10 +10,9 @@ use Rattle.binary32.specs.Numbers.{plus-zero}
 use Rattle.fifo.specs.Machine.{takes-of}
 use Rattle.fifo.specs.Simulation.{Within}
 use Rattle.rules.specs.declared.Size.{Size}
-use Rattle.rules.specs.Sizes.{in-bounds, count}
+use Rattle.rules.specs.Sizes.{grid, in-bounds, count}
 use Rattle.rules.specs.Distances.{float}
 use Rattle.rules.specs.Sums.{total-takes, from-amount, counts, runs-8, gaining, gain, gains}
-use Rattle.calls.specs.Given.{grid}
 
 -- The answer and the work buffers have their lengths, whatever they hold.
 pub record Lengths (size : Size) (answer distances : List Float) (marks added queue : List ℕ) : Type 0 where

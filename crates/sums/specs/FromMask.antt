@@ -9,9 +9,8 @@ use lib.ListN.{length}
 use Rattle.binary32.specs.Numbers.{plus-zero}
 use Rattle.fifo.specs.Simulation.{Within}
 use Rattle.rules.specs.declared.Size.{Size}
-use Rattle.rules.specs.Sizes.{in-bounds, count}
+use Rattle.rules.specs.Sizes.{grid, in-bounds, count}
 use Rattle.rules.specs.Sums.{Run, run-of, from-mask-cell, listed, over-budget, sum-of}
-use Rattle.calls.specs.Given.{grid}
 use Rattle.reach.specs.Listing.{Listing}
 use Rattle.reach.specs.Summing.{plus-values}
 use Rattle.reach.specs.Adjacent.{adjacent}

@@ -7,12 +7,11 @@ use lib.Ieee.{Float}
 use lib.ListN.{length, set, replicate}
 use Rattle.binary32.specs.Numbers.{plus-zero}
 use Rattle.rules.specs.declared.Size.{Size}
-use Rattle.rules.specs.Sizes.{number-at, Outcome, refused, accepted, unless, count}
+use Rattle.rules.specs.Sizes.{grid, number-at, Outcome, refused, accepted, unless, count}
 use Rattle.rules.specs.Distances.{target}
 use Rattle.rules.specs.Sums.{total-takes, runs-7, over-budget, sum-of, sums, refusal-7}
 use Rattle.calls.specs.declared.answer.Answer.{Answer}
 use Rattle.calls.specs.Answer.{told, tell, answer-after}
-use Rattle.calls.specs.Given.{grid}
 use Rattle.sums.specs.declared.mask.Searched.{Searched}
 use Rattle.sums.specs.declared.mask.Found.{Found}
 use Rattle.sums.specs.declared.mask.Found.the-variants.{All, Over}

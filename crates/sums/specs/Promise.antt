@@ -7,11 +7,11 @@ use lib.Ieee.{Float}
 use lib.ListN.{length}
 use Rattle.binary32.specs.Numbers.{plus-zero}
 use Rattle.rules.specs.declared.Size.{Size}
-use Rattle.rules.specs.Sizes.{Lent, Outcome, accepted, count}
+use Rattle.rules.specs.Sizes.{grid, Lent, Outcome, accepted, count}
 use Rattle.rules.specs.Sums.{total-takes, outcome-7, runs-8, gains, outcome-8}
 use Rattle.calls.specs.declared.answer.Answer.{Answer}
 use Rattle.calls.specs.Answer.{buffer-after}
-use Rattle.calls.specs.Given.{grid, lent}
+use Rattle.calls.specs.Given.{lent}
 use Rattle.calls.specs.Promise.{Slice, Promised}
 use Rattle.sums.specs.FromAmounts.{Searching}
 

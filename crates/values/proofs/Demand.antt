@@ -11,7 +11,7 @@ use Rattle.fifo.specs.Laws.{Laws, room}
 use Rattle.fifo.proofs.Search.{read-length, read-at}
 use Rattle.rules.specs.declared.Size.{Size}
 use Rattle.rules.specs.Numbers.{infinity}
-use Rattle.rules.specs.Sizes.{Judged, count}
+use Rattle.rules.specs.Sizes.{grid, Judged, count}
 use Rattle.rules.specs.Values.{Carried, values-of, closest, closest-by-time, refusals-4, refusals-5, refusals-6, outcome-4, outcome-5, outcome-6}
 use Rattle.rules.proofs.Inputs.{AcceptedTimes, infinity-fits, infinity-not-nan}
 use Rattle.rules.proofs.Accepted.{accepted-5, accepted-6}
@@ -19,7 +19,6 @@ use Rattle.rules.proofs.Nets.{closest-laws, closest-by-time-laws}
 use Rattle.rules.proofs.ClosestTargets.{closest-targets-4, closest-targets-by-time}
 use Rattle.calls.specs.declared.answer.Answer.{Answer}
 use Rattle.calls.specs.Answer.{takes, told}
-use Rattle.calls.specs.Given.{grid}
 use Rattle.calls.specs.Promise.{Slice}
 use Rattle.calls.proofs.Promises.{Found, accepted-found}
 use Rattle.values.specs.Promise.{lengths, ValueAtClosestTarget, ValueAtClosestTravelTarget, ValueAtClosestLessThanTravelTarget}

@@ -9,7 +9,7 @@ use lib.ListN.{length, getD, replicate}
 use Rattle.binary32.specs.Numbers.{plus-zero}
 use Rattle.fifo.specs.Machine.{finish, takes-of}
 use Rattle.rules.specs.declared.Size.{Size}
-use Rattle.rules.specs.Sizes.{Judged, Lent, Outcome, accepted, passes, unless, in-bounds, any, below-zero, count}
+use Rattle.rules.specs.Sizes.{grid, Judged, Lent, Outcome, accepted, passes, unless, in-bounds, any, below-zero, count}
 use Rattle.rules.specs.Numbers.{infinity}
 use Rattle.rules.specs.Values.{values-of, closest, closest-by-time, refusals-4, refusals-5, refusals-6}
 use Rattle.rules.proofs.Inputs.{infinity-fits, infinity-not-nan}
@@ -21,7 +21,7 @@ use Rattle.calls.specs.declared.answer.Judged.{Judged as CodeJudged}
 use Rattle.calls.specs.declared.answer.Judged.the-variants.{Passes, Stops}
 use Rattle.calls.specs.declared.answer.Refusal.{Refusal}
 use Rattle.calls.specs.Answer.{takes, judged-as}
-use Rattle.calls.specs.Given.{grid, lent}
+use Rattle.calls.specs.Given.{lent}
 use Rattle.calls.specs.Promise.{Slice, slice}
 use Rattle.calls.proofs.Shapes.{Shaped, shaped}
 use Rattle.calls.proofs.Untouched.{judged-writes, searched-is, buffer-untouched}

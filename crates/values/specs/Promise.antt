@@ -8,11 +8,11 @@ use lib.ListN.{length}
 use Rattle.binary32.specs.Numbers.{plus-zero}
 use Rattle.fifo.specs.Machine.{finish, takes-of}
 use Rattle.rules.specs.declared.Size.{Size}
-use Rattle.rules.specs.Sizes.{Lent, Outcome, accepted}
+use Rattle.rules.specs.Sizes.{grid, Lent, Outcome, accepted}
 use Rattle.rules.specs.Values.{values-of, outcome-4, outcome-5, outcome-6}
 use Rattle.calls.specs.declared.answer.Answer.{Answer}
 use Rattle.calls.specs.Answer.{buffer-after}
-use Rattle.calls.specs.Given.{grid, lent}
+use Rattle.calls.specs.Given.{lent}
 use Rattle.calls.specs.Promise.{Slice, Promised}
 use Rattle.spread.specs.declared.search.Search.{Search}
 use Rattle.spread.specs.Nets.{Grids, net-of, carries}
