@@ -6,7 +6,7 @@ use Prim.Native.Nat.{ℕ}
 use native.Mathlib.Omega.{arith}
 use lib.Ieee.{Float}
 use Rattle.rules.specs.declared.Size.{Size}
-use Rattle.rules.specs.Sizes.{Refusal, number, number-at, Judged, passes, stops, Lent, first-that-holds, any, first-index, shape, below-zero, negative-time}
+use Rattle.rules.specs.Sizes.{Refusal, number, number-at, Judged, passes, stops, Lent, or-else, first-that-holds, any, first-index, shape, below-zero, negative-time}
 use Rattle.calls.specs.Answer as code
 use Rattle.calls.specs.Answer.{judged-as, Passes, Stops}
 
@@ -41,11 +41,6 @@ module _ {holds : Bool} {refusal : Refusal} {more : Tests} where
       go true e = let never : _≡_ {A = ℕ} 0 1 = cc in absurd (omega arith)
       go false e = (refl, record { is = e })
 
--- Of two lists of tests the second is asked where the first passes.
-abbrev or-else : Judged → Judged → Judged
-or-else passes later = later
-or-else (stops refusal) later = stops refusal
-
 or-else-first : (holds : Bool) (refusal : Refusal) (both first later : Judged) → both ≡ or-else first later → cond holds (stops refusal) both ≡ or-else (cond holds (stops refusal) first) later
 or-else-first true refusal both first later e = refl
 or-else-first false refusal both first later e = e
@@ -56,12 +51,26 @@ unfolding first-that-holds
 or-else-append [] more = refl
 or-else-append ((holds, refusal) ∷ tests) more = or-else-first holds refusal (first-that-holds (tests ++ more)) (first-that-holds tests) (first-that-holds more) (or-else-append tests more)
 
+-- Two lists come to two judgements, and both lists to the first that refuses.
+pub in-order : {tests more : Tests} {first later judged : Judged} → judged ≡ or-else first later → Comes tests first → Comes more later → Comes (tests ++ more) judged
+in-order {tests} {more} {first} {later} chosen comes comes-later = record {
+  is =
+      chosen ∙ ap (λ (j : Judged). or-else j later) (comes .is) ∙ ap (λ (j : Judged). or-else (first-that-holds tests) j) (comes-later .is)
+      ∙ sym (or-else-append tests more);
+}
+
 -- ---- the tests on sizes and lengths, and those that follow
 
 module _ (size : Size) (others : List Size) (inputs : List ℕ) (lent : Lent) (more : Tests) where
   shape-then : first-that-holds (shape size others inputs lent more) ≡ or-else (first-that-holds (shape size others inputs lent [])) (first-that-holds more)
   unfolding shape
   shape-then = or-else-append _ more
+
+  pub shape-in-order :
+      {first later judged : Judged} → judged ≡ or-else first later → Comes (shape size others inputs lent []) first → Comes more later
+      → Comes (shape size others inputs lent more) judged
+  unfolding shape
+  shape-in-order = in-order
 
   module _ (shaped : code.Judged) (means : judged-as shaped ≡ first-that-holds (shape size others inputs lent [])) where
     shaped-then : first-that-holds (shape size others inputs lent more) ≡ or-else (judged-as shaped) (first-that-holds more)
@@ -86,9 +95,3 @@ module _ (times : List Float) where
 
   pub first-negative-is : {i : ℕ} → any below-zero times ≡ true → first-index below-zero times ≡ i → Comes (negative-time times ∷ []) (stops (number-at 6 i))
   first-negative-is some is = subst (λ (k : ℕ). Comes (negative-time times ∷ []) (stops (number-at 6 k))) is (first-holds some)
-
-  -- The limit, by what its test answered, then the times.
-  pub limit-then-times :
-      {answer test : Bool} {judged : Judged} → answer ≡ test → judged ≡ first-that-holds ((answer, number 5) ∷ negative-time times ∷ [])
-      → Comes ((test, number 5) ∷ negative-time times ∷ []) judged
-  limit-then-times means e = record { is = e ∙ ap (λ (bad : Bool). first-that-holds ((bad, number 5) ∷ negative-time times ∷ [])) means }

@@ -6,6 +6,7 @@ pub mod RowScans
 pub mod Judgements
 pub mod Lengths
 pub mod Shapes
+pub mod Cases
 pub mod Decided
 pub mod Untouched
 pub mod Promises

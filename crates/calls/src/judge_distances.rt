@@ -2,9 +2,9 @@
 // A search gives the size and the slice of each input grid, its numbers, the lengths of the answer
 // and of the work buffers in their order, and that of the queue.
 use crate::answer::Judged;
-use crate::answer::Refusal;
-use crate::limits::bad_cell_size;
-use crate::limits::nan_limit;
+use crate::limits::judge_cell_size;
+use crate::limits::judge_limit;
+use crate::order::first_refusal;
 use crate::shape::judge_one;
 use crate::shape::judge_two;
 use crate::times::judge_limit_and_times;
@@ -27,16 +27,10 @@ pub fn judge_1(
     ensures { λ r. ⌜ judged-as r ≡ refusals-1 (grid size (now (targets .entry))) spacing (lent (now (slices .entry)) queue) ⌝ }
 {
     let shape = judge_one(size, &[targets.len()], slices, queue);
-    let Judged::Passes = shape else {
-        return shape;
-    };
-    if bad_cell_size(spacing) {
-        return Judged::Stops(Refusal::BadCellSize);
-    }
-    if nan_limit(spacing.limit) {
-        return Judged::Stops(Refusal::BadLimit);
-    }
-    Judged::Passes
+    let cell_size = judge_cell_size(spacing);
+    let limit = judge_limit(spacing.limit);
+    let numbers = first_refusal(cell_size, limit);
+    first_refusal(shape, numbers)
 }
 
 // Search 2, `distance_with_obstacles`. Its limit is never read.
@@ -58,13 +52,8 @@ pub fn judge_2(
         slices,
         queue,
     );
-    let Judged::Passes = shape else {
-        return shape;
-    };
-    if bad_cell_size(spacing) {
-        return Judged::Stops(Refusal::BadCellSize);
-    }
-    Judged::Passes
+    let cell_size = judge_cell_size(spacing);
+    first_refusal(shape, cell_size)
 }
 
 // Search 3, `travel_distances_up_to`.
@@ -89,5 +78,5 @@ pub fn judge_3(
     let Judged::Passes = shape else {
         return shape;
     };
-    judge_limit_and_times(nan_limit(cap), targets_size, times)
+    judge_limit_and_times(judge_limit(cap), targets_size, times)
 }

@@ -1,6 +1,6 @@
 // The refusals 1 to 6 of the searches for sums within reach.
 use crate::answer::Judged;
-use crate::limits::bad_budget;
+use crate::limits::judge_budget;
 use crate::shape::judge_three;
 use crate::shape::judge_two;
 use crate::times::judge_limit_and_times;
@@ -36,7 +36,7 @@ pub fn judge_7(
     let Judged::Passes = shape else {
         return shape;
     };
-    judge_limit_and_times(bad_budget(budget), mask_size, times)
+    judge_limit_and_times(judge_budget(budget), mask_size, times)
 }
 
 // Search 8, `sum_targets_within_travel_distance`.
@@ -61,5 +61,5 @@ pub fn judge_8(
     let Judged::Passes = shape else {
         return shape;
     };
-    judge_limit_and_times(bad_budget(budget), times_size, times)
+    judge_limit_and_times(judge_budget(budget), times_size, times)
 }

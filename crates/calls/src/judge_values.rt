@@ -1,6 +1,6 @@
 // The refusals 1 to 6 of the searches for values at the closest target.
 use crate::answer::Judged;
-use crate::limits::nan_limit;
+use crate::limits::judge_limit;
 use crate::shape::judge_three;
 use crate::shape::judge_two;
 use crate::times::first_negative;
@@ -84,5 +84,5 @@ pub fn judge_6(
     let Judged::Passes = shape else {
         return shape;
     };
-    judge_limit_and_times(nan_limit(limit), targets_size, times)
+    judge_limit_and_times(judge_limit(limit), targets_size, times)
 }

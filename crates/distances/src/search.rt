@@ -1,10 +1,10 @@
 // A search over distances, once no test refuses.
 use calls::Answer;
 use calls::Counts;
+use calls::fill_bytes;
+use calls::fill_cells;
 use calls::scale;
 use calls::settle;
-use calls::zero_bytes;
-use calls::zero_cells;
 use rules::Spacing;
 use spread::Search;
 use spread::spread;
@@ -38,8 +38,8 @@ fn find_distances(
         marks,
         queue,
     );
-    zero_bytes(marks);
-    zero_cells(queue);
+    fill_bytes(marks, 0);
+    fill_cells(queue, 0);
     Answer::Accepted(Counts { takes })
 }
 

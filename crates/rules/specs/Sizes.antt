@@ -73,6 +73,11 @@ unfoldable pub first-that-holds : List (Bool × Refusal) → Judged
 first-that-holds [] = passes
 first-that-holds ((holds, refusal) ∷ tests) = cond holds (stops refusal) (first-that-holds tests)
 
+-- Of two judgements the first that refuses.
+abbrev pub or-else : Judged → Judged → Judged
+or-else passes later = later
+or-else (stops refusal) later = stops refusal
+
 unfoldable pub any : {A : Type 0} → (A → Bool) → List A → Bool
 any test [] = false
 any test (a ∷ rest) = test a || any test rest

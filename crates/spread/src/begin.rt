@@ -8,8 +8,8 @@ use crate::waiting::begin_waiting;
 use crate::waiting::wait;
 use binary32::infinity;
 use binary32::is_nodata;
+use calls::fill_bytes;
 use calls::fill_floats;
-use calls::zero_bytes;
 use cells::Ring;
 use cells::cell_count;
 ghost use Prim.Native.Nat.{_+_};
@@ -92,7 +92,7 @@ fn begin_from(
         (now (distances .exit)) (now (marks .exit)) (now (queue .exit)) r ⌝ }
 {
     fill_floats(distances, cap);
-    zero_bytes(marks);
+    fill_bytes(marks, 0);
     let ring = Ring::new();
     let at = origin as usize;
     if at < distances.len() {

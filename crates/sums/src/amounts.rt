@@ -1,7 +1,7 @@
 // The searches from the amounts, one after the other in row order.
 use crate::gain::run_gaining;
 use binary32::is_nodata;
-use calls::zero_bytes;
+use calls::fill_bytes;
 use cells::cell_count;
 use rules::Size;
 use spread::Rule;
@@ -57,7 +57,7 @@ fn search_amount(
         marks,
         queue,
     );
-    zero_bytes(added);
+    fill_bytes(added, 0);
     run_gaining(
         search,
         &bytes,

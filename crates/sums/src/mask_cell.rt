@@ -1,7 +1,7 @@
 // The search from one mask cell, and the sum of what it reached.
 use crate::listing::Reached;
 use crate::listing::run_listing;
-use calls::zero_cells;
+use calls::fill_cells;
 use reach::add_adjacent;
 use reach::add_listed;
 use reach::is_over_budget;
@@ -38,7 +38,7 @@ fn reach_from(
     let bytes = [0; 1];
     let values = [0.0; 1];
     let mut carried = [0.0; 1];
-    zero_cells(met);
+    fill_cells(met, 0);
     let ring = begin_cells(
         search,
         &bytes,

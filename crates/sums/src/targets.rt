@@ -3,11 +3,11 @@ use crate::amounts::search_amounts;
 use calls::Answer;
 use calls::Counts;
 use calls::Judged;
+use calls::fill_bytes;
+use calls::fill_cells;
+use calls::fill_floats;
 use calls::judge_8;
 use calls::settle;
-use calls::zero_bytes;
-use calls::zero_cells;
-use calls::zero_floats;
 use rules::Size;
 ghost use Rattle.calls.specs.Promise.{slice};
 ghost use Rattle.sums.specs.Promise.{Sums, summed, PromisedGains, SumTargetsWithinTravelDistance};
@@ -27,7 +27,7 @@ fn sum_targets(
     requires { ⌜ Sums size (now times) (now amounts) limit (now answer) (now distances) (now marks) (now added) (now queue) ⌝ }
     ensures { λ r. ⌜ PromisedGains (summed size (now (times .entry)) (now (amounts .entry)) limit) r (slice (now (answer .entry)) (now (answer .exit))) (slice (now (distances .entry)) (now (distances .exit))) (slice (now (marks .entry)) (now (marks .exit))) (slice (now (added .entry)) (now (added .exit))) (slice (now (queue .entry)) (now (queue .exit))) ⌝ }
 {
-    zero_floats(answer);
+    fill_floats(answer, 0.0);
     let takes = search_amounts(
         size,
         times,
@@ -40,10 +40,10 @@ fn sum_targets(
         queue,
     );
     settle(answer);
-    zero_floats(distances);
-    zero_bytes(marks);
-    zero_bytes(added);
-    zero_cells(queue);
+    fill_floats(distances, 0.0);
+    fill_bytes(marks, 0);
+    fill_bytes(added, 0);
+    fill_cells(queue, 0);
     Answer::Accepted(Counts { takes })
 }
 

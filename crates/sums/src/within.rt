@@ -5,12 +5,12 @@ use calls::Answer;
 use calls::Counts;
 use calls::Judged;
 use calls::Refusal;
+use calls::fill_bytes;
+use calls::fill_cells;
+use calls::fill_floats;
 use calls::fill_nan;
 use calls::judge_7;
 use calls::settle;
-use calls::zero_bytes;
-use calls::zero_cells;
-use calls::zero_floats;
 use rules::Size;
 ghost use Rattle.calls.specs.Promise.{slice};
 ghost use Rattle.sums.specs.Mask.{Given, LeftAnswer, mask-outcome};
@@ -51,7 +51,7 @@ fn sum_mask(
     requires { ⌜ Given size (now mask) (now times) (now values) (now answer) (now distances) (now marks) (now listed) (now met) (now queue) ⌝ }
     ensures { λ r. ⌜ PromisedSums (mask-outcome size (now (mask .entry)) (now (times .entry)) (now (values .entry)) limit «include_adjacent») r (slice (now (answer .entry)) (now (answer .exit))) (slice (now (distances .entry)) (now (distances .exit))) (slice (now (marks .entry)) (now (marks .exit))) (slice (now (listed .entry)) (now (listed .exit))) (slice (now (met .entry)) (now (met .exit))) (slice (now (queue .entry)) (now (queue .exit))) ⌝ }
 {
-    zero_floats(answer);
+    fill_floats(answer, 0.0);
     let found = search_mask(
         size,
         mask,
@@ -66,11 +66,11 @@ fn sum_mask(
         met,
         queue,
     );
-    zero_floats(distances);
-    zero_bytes(marks);
-    zero_cells(listed);
-    zero_cells(met);
-    zero_cells(queue);
+    fill_floats(distances, 0.0);
+    fill_bytes(marks, 0);
+    fill_cells(listed, 0);
+    fill_cells(met, 0);
+    fill_cells(queue, 0);
     leave_answer(found, answer)
 }
 

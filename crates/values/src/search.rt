@@ -1,10 +1,10 @@
 // A search for values, once no test refuses.
 use calls::Answer;
 use calls::Counts;
+use calls::fill_bytes;
+use calls::fill_cells;
+use calls::fill_floats;
 use calls::settle;
-use calls::zero_bytes;
-use calls::zero_cells;
-use calls::zero_floats;
 use spread::Search;
 use spread::spread;
 ghost use Rattle.calls.specs.Promise.{slice};
@@ -38,8 +38,8 @@ pub fn search_values(
         queue,
     );
     settle(answer);
-    zero_floats(distances);
-    zero_bytes(marks);
-    zero_cells(queue);
+    fill_floats(distances, 0.0);
+    fill_bytes(marks, 0);
+    fill_cells(queue, 0);
     Answer::Accepted(Counts { takes })
 }

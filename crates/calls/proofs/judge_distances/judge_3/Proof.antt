@@ -1,8 +1,9 @@
 -- `judge_distances::judge_3` meets its contract. Assumes nothing.
 use mathlib.Core.List.{[]}
+use mathlib.Core.Path.{refl}
 use borrow.Author.Needs.{needs}
 use Rattle.rules.specs.Distances.{refusals-3}
-use Rattle.calls.proofs.Judgements.{stops-there, goes-on, shape-passes, limit-then-times}
+use Rattle.calls.proofs.Judgements.{in-order, stops-there, goes-on, shape-passes}
 use Rattle.calls.proofs.Shapes.{shaped}
 use Rattle.calls.proofs.judge_distances.judge_3.Statement.{statement}
 use Rattle.calls.proofs.judge_distances.judge_3.Tie as tie
@@ -23,8 +24,8 @@ returns : tie.Need-returns
 unfolding refusals-3
 returns c = stops-there _ _ _ _ _ _ (c .before .before .judge-two .ensures) (c .enum-told2 .given .1)
 
-nan-limit-requires : tie.Need-nan-limit-requires
-nan-limit-requires c κs = search needs
+judge-limit-requires : tie.Need-judge-limit-requires
+judge-limit-requires c κs = search needs
 
 judge-limit-and-times-requires : tie.Need-judge-limit-and-times-requires
 judge-limit-and-times-requires c κs =
@@ -35,11 +36,20 @@ judge-limit-and-times-requires c κs =
 returns-2 : tie.Need-returns-2
 unfolding refusals-3
 returns-2 c =
-    let passes = c .before .before in
+    let limit = c .before in
+    let passes = limit .before in
     goes-on _ _ _ _ _ _ (passes .before .before .judge-two .ensures) (passes .enum-told .given .1)
-    (limit-then-times _ (c .before .nan-limit .ensures) (c .judge-limit-and-times .ensures)) .is
+    (in-order (c .judge-limit-and-times .ensures) (record { is = limit .judge-limit .ensures }) (record { is = refl })) .is
 
 pub judge-3-spec : {M : Type 1} → statement M
 judge-3-spec =
     tie.close
-    (tie.spec slice-aggregate-judge-two judge-two-requires enum-told enum-told-2 returns nan-limit-requires judge-limit-and-times-requires returns-2)
+    (tie.spec
+    slice-aggregate-judge-two
+    judge-two-requires
+    enum-told
+    enum-told-2
+    returns
+    judge-limit-requires
+    judge-limit-and-times-requires
+    returns-2)

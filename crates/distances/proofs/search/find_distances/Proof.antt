@@ -13,11 +13,11 @@ slice-aggregate-spread-2 c = search needs
 spread-requires : tie.Need-spread-requires
 spread-requires c κs = c .before .before .before .before .before .before .before .before .before .before .before .pre .spreads _
 
-zero-bytes-requires : tie.Need-zero-bytes-requires
-zero-bytes-requires c κs = search needs
+fill-bytes-requires : tie.Need-fill-bytes-requires
+fill-bytes-requires c κs = search needs
 
-zero-cells-requires : tie.Need-zero-cells-requires
-zero-cells-requires c κs = search needs
+fill-cells-requires : tie.Need-fill-cells-requires
+fill-cells-requires c κs = search needs
 
 same-length : tie.Need-same-length
 same-length c = search needs
@@ -29,7 +29,7 @@ same-length-3 : tie.Need-same-length-3
 same-length-3 c = search needs
 
 returns : tie.Need-returns
-returns c = found-promised (c .before .before .before .before .before .before .before .before .before .before .before .before .before .before .before .before .before .before .before .before .before .before .before .before .before .before .before .pre .spreads _) (c .before .before .before .before .before .before .before .before .before .before .before .before .before .before .before .spread .ensures) (c .before .before .before .before .before .before .zero-bytes .ensures) (c .before .before .zero-cells .ensures)
+returns c = found-promised (c .before .before .before .before .before .before .before .before .before .before .before .before .before .before .before .before .before .before .before .before .before .before .before .before .before .before .before .pre .spreads _) (c .before .before .before .before .before .before .before .before .before .before .before .before .before .before .before .spread .ensures) (c .before .before .before .before .before .before .fill-bytes .ensures) (c .before .before .fill-cells .ensures)
 
 pub find-distances-spec : {M : Type 1} → statement M
 find-distances-spec =
@@ -38,8 +38,8 @@ find-distances-spec =
     slice-aggregate-spread
     slice-aggregate-spread-2
     spread-requires
-    zero-bytes-requires
-    zero-cells-requires
+    fill-bytes-requires
+    fill-cells-requires
     same-length
     same-length-2
     same-length-3

@@ -8,8 +8,8 @@ use Rattle.spread.proofs.begin.begin_from.Tie as tie
 fill-floats-requires : tie.Need-fill-floats-requires
 fill-floats-requires c κs = search needs
 
-zero-bytes-requires : tie.Need-zero-bytes-requires
-zero-bytes-requires c κs = search needs
+fill-bytes-requires : tie.Need-fill-bytes-requires
+fill-bytes-requires c κs = search needs
 
 new-requires : tie.Need-new-requires
 new-requires c κs = search needs
@@ -30,7 +30,7 @@ is-nodata-requires : tie.Need-is-nodata-requires
 is-nodata-requires c κs = search needs
 
 wait-requires : tie.Need-wait-requires
-wait-requires c κs = let s = c .before .before .before .before .before .before .before .before .before .before .before .before .before .before .before .before .before .before .before in origin-joins (s .args .cap) (s .pre) (c .before .before .before .before .before .before .before .before .before .before .before .before .before .fill-floats .ensures) (c .before .before .before .before .before .before .before .before .before .zero-bytes .ensures) (c .before .before .before .before .before .before .new .ensures) (c .before .before .before .before .before .if1 .taken)
+wait-requires c κs = let s = c .before .before .before .before .before .before .before .before .before .before .before .before .before .before .before .before .before .before .before in origin-joins (s .args .cap) (s .pre) (c .before .before .before .before .before .before .before .before .before .before .before .before .before .fill-floats .ensures) (c .before .before .before .before .before .before .before .before .before .fill-bytes .ensures) (c .before .before .before .before .before .before .new .ensures) (c .before .before .before .before .before .if1 .taken)
 
 same-length : tie.Need-same-length
 same-length c = search needs
@@ -44,7 +44,7 @@ same-length-3 c = search needs
 returns : tie.Need-returns
 returns c =
     let s = c .before .before .before .before .before .before .before .before .before .before .before .before .before .before .before .before .before .before .before .before .before .before .before .before in
-    began-waiting (s .args .cap) (s .pre) (c .before .before .before .before .before .before .before .before .before .before .before .before .before .before .before .before .before .before .fill-floats .ensures) (c .before .before .before .before .before .before .before .before .before .before .before .before .before .before .zero-bytes .ensures) (c .before .before .before .before .before .before .before .before .before .before .before .new .ensures) (c .before .before .before .before .before .before .before .before .before .before .if1 .taken) (c .before .before .before .before .before .before .before .before .is-nodata .ensures) (not-true (c .before .before .before .before .before .before .before .before .is-nodata .result) (c .before .before .before .before .before .before .before .if2 .taken)) (c .before .before .before .before .wait .ensures)
+    began-waiting (s .args .cap) (s .pre) (c .before .before .before .before .before .before .before .before .before .before .before .before .before .before .before .before .before .before .fill-floats .ensures) (c .before .before .before .before .before .before .before .before .before .before .before .before .before .before .fill-bytes .ensures) (c .before .before .before .before .before .before .before .before .before .before .before .new .ensures) (c .before .before .before .before .before .before .before .before .before .before .if1 .taken) (c .before .before .before .before .before .before .before .before .is-nodata .ensures) (not-true (c .before .before .before .before .before .before .before .before .is-nodata .result) (c .before .before .before .before .before .before .before .if2 .taken)) (c .before .before .before .before .wait .ensures)
 
 same-length-4 : tie.Need-same-length-4
 same-length-4 c = search needs
@@ -55,7 +55,7 @@ same-length-5 c = search needs
 returns-2 : tie.Need-returns-2
 returns-2 c =
     let s = c .before .before .before .before .before .before .before .before .before .before .before .before .before .before .before .before .before in
-    began-idle (s .args .cap) (s .pre) (c .before .before .before .before .before .before .before .before .before .before .before .fill-floats .ensures) (c .before .before .before .before .before .before .before .zero-bytes .ensures) (c .before .before .before .before .new .ensures) (c .before .before .before .if1 .taken) (c .before .is-nodata .ensures) (not-false (c .before .is-nodata .result) (c .if2 .left))
+    began-idle (s .args .cap) (s .pre) (c .before .before .before .before .before .before .before .before .before .before .before .fill-floats .ensures) (c .before .before .before .before .before .before .before .fill-bytes .ensures) (c .before .before .before .before .new .ensures) (c .before .before .before .if1 .taken) (c .before .is-nodata .ensures) (not-false (c .before .is-nodata .result) (c .if2 .left))
 
 same-length-6 : tie.Need-same-length-6
 same-length-6 c = search needs
@@ -64,14 +64,14 @@ same-length-7 : tie.Need-same-length-7
 same-length-7 c = search needs
 
 returns-3 : tie.Need-returns-3
-returns-3 c = let s = c .before .before .before .before .before .before .before .before .before .before .before .before .before .before in began-nowhere (s .args .cap) (s .pre) (c .before .before .before .before .before .before .before .before .fill-floats .ensures) (c .before .before .before .before .zero-bytes .ensures) (c .before .new .ensures) (c .if1 .left)
+returns-3 c = let s = c .before .before .before .before .before .before .before .before .before .before .before .before .before .before in began-nowhere (s .args .cap) (s .pre) (c .before .before .before .before .before .before .before .before .fill-floats .ensures) (c .before .before .before .before .fill-bytes .ensures) (c .before .new .ensures) (c .if1 .left)
 
 pub begin-from-spec : {M : Type 1} → statement M
 begin-from-spec =
     tie.close
     (tie.spec
     fill-floats-requires
-    zero-bytes-requires
+    fill-bytes-requires
     new-requires
     mul-distances
     slice-write-distances

@@ -16,8 +16,8 @@ slice-aggregate-begin-cells-3 c = search needs
 begin-cells-requires : tie.Need-begin-cells-requires
 begin-cells-requires c κs = amount-begins _ _ _ _ (c .before .before .before .before .before .before .before .before .before .before .before .before .pre) _ _ _
 
-zero-bytes-requires : tie.Need-zero-bytes-requires
-zero-bytes-requires c κs = search needs
+fill-bytes-requires : tie.Need-fill-bytes-requires
+fill-bytes-requires c κs = search needs
 
 slice-aggregate-run-gaining : tie.Need-slice-aggregate-run-gaining
 slice-aggregate-run-gaining c = search needs
@@ -26,7 +26,7 @@ slice-aggregate-run-gaining-2 : tie.Need-slice-aggregate-run-gaining-2
 slice-aggregate-run-gaining-2 c = search needs
 
 run-gaining-requires : tie.Need-run-gaining-requires
-run-gaining-requires c κs = amount-gains _ _ _ _ (c .before .before .before .before .before .before .before .before .before .before .before .before .before .before .before .before .before .before .before .before .before .before .before .before .before .before .before .before .before .before .before .pre) (c .before .before .before .before .before .before .before .before .before .before .before .before .before .before .before .before .before .before .begin-cells .ensures) (c .before .before .before .before .before .before .before .before .before .zero-bytes .ensures)
+run-gaining-requires c κs = amount-gains _ _ _ _ (c .before .before .before .before .before .before .before .before .before .before .before .before .before .before .before .before .before .before .before .before .before .before .before .before .before .before .before .before .before .before .before .pre) (c .before .before .before .before .before .before .before .before .before .before .before .before .before .before .before .before .before .before .begin-cells .ensures) (c .before .before .before .before .before .before .before .before .before .fill-bytes .ensures)
 
 same-length : tie.Need-same-length
 same-length c = search needs
@@ -54,7 +54,7 @@ search-amount-spec =
     slice-aggregate-begin-cells-2
     slice-aggregate-begin-cells-3
     begin-cells-requires
-    zero-bytes-requires
+    fill-bytes-requires
     slice-aggregate-run-gaining
     slice-aggregate-run-gaining-2
     run-gaining-requires

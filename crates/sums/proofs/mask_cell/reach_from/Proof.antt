@@ -5,8 +5,8 @@ use borrow.Author.Needs.{needs}
 use Rattle.sums.proofs.mask_cell.reach_from.Statement.{statement}
 use Rattle.sums.proofs.mask_cell.reach_from.Tie as tie
 
-zero-cells-requires : tie.Need-zero-cells-requires
-zero-cells-requires c κs = search needs
+fill-cells-requires : tie.Need-fill-cells-requires
+fill-cells-requires c κs = search needs
 
 slice-aggregate-begin-cells : tie.Need-slice-aggregate-begin-cells
 slice-aggregate-begin-cells c = search needs
@@ -27,7 +27,7 @@ slice-aggregate-run-listing-2 : tie.Need-slice-aggregate-run-listing-2
 slice-aggregate-run-listing-2 c = search needs
 
 run-listing-requires : tie.Need-run-listing-requires
-run-listing-requires c κs = mask-lists _ _ _ _ (c .before .before .before .before .before .before .before .before .before .before .before .before .before .before .before .before .before .before .before .before .before .before .before .before .before .before .before .before .before .before .before .pre) (c .before .before .before .before .before .before .before .before .before .before .before .before .before .before .begin-cells .ensures) (c .before .before .before .before .before .before .before .before .before .before .before .before .before .before .before .before .before .before .before .before .before .before .before .zero-cells .ensures)
+run-listing-requires c κs = mask-lists _ _ _ _ (c .before .before .before .before .before .before .before .before .before .before .before .before .before .before .before .before .before .before .before .before .before .before .before .before .before .before .before .before .before .before .before .pre) (c .before .before .before .before .before .before .before .before .before .before .before .before .before .before .begin-cells .ensures) (c .before .before .before .before .before .before .before .before .before .before .before .before .before .before .before .before .before .before .before .before .before .before .before .fill-cells .ensures)
 
 list-cell-requires : tie.Need-list-cell-requires
 list-cell-requires c κs = start-joins _ _ _ _ (c .before .before .before .before .before .before .before .before .before .before .before .before .before .before .before .before .before .before .before .before .before .before .before .before .before .before .before .before .before .before .before .before .before .before .before .before .before .before .before .before .before .before .before .before .before .pre) (c .before .before .before .before .before .before .before .before .before .before .before .before .before .before .before .before .before .before .before .before .before .before .before .before .before .before .before .before .begin-cells .ensures) (c .before .before .before .before .before .before .before .before .before .before .before .before .before .run-listing .ensures)
@@ -54,7 +54,7 @@ pub reach-from-spec : {M : Type 1} → statement M
 reach-from-spec =
     tie.close
     (tie.spec
-    zero-cells-requires
+    fill-cells-requires
     slice-aggregate-begin-cells
     slice-aggregate-begin-cells-2
     slice-aggregate-begin-cells-3

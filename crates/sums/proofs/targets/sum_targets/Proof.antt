@@ -4,26 +4,26 @@ use borrow.Author.Needs.{needs}
 use Rattle.sums.proofs.targets.sum_targets.Statement.{statement}
 use Rattle.sums.proofs.targets.sum_targets.Tie as tie
 
-zero-floats-requires : tie.Need-zero-floats-requires
-zero-floats-requires c κs = search needs
+fill-floats-requires : tie.Need-fill-floats-requires
+fill-floats-requires c κs = search needs
 
 search-amounts-requires : tie.Need-search-amounts-requires
-search-amounts-requires c κs = sums-search (c .before .before .before .before .before .before .before .before .before .before .before .before .before .before .before .before .pre) (c .before .before .before .before .before .before .before .zero-floats .ensures)
+search-amounts-requires c κs = sums-search (c .before .before .before .before .before .before .before .before .before .before .before .before .before .before .before .before .pre) (c .before .before .before .before .before .before .before .fill-floats .ensures)
 
 settle-requires : tie.Need-settle-requires
 settle-requires c κs = search needs
 
-zero-floats-requires-2 : tie.Need-zero-floats-requires-2
-zero-floats-requires-2 c κs = search needs
+fill-floats-requires-2 : tie.Need-fill-floats-requires-2
+fill-floats-requires-2 c κs = search needs
 
-zero-bytes-requires : tie.Need-zero-bytes-requires
-zero-bytes-requires c κs = search needs
+fill-bytes-requires : tie.Need-fill-bytes-requires
+fill-bytes-requires c κs = search needs
 
-zero-bytes-requires-2 : tie.Need-zero-bytes-requires-2
-zero-bytes-requires-2 c κs = search needs
+fill-bytes-requires-2 : tie.Need-fill-bytes-requires-2
+fill-bytes-requires-2 c κs = search needs
 
-zero-cells-requires : tie.Need-zero-cells-requires
-zero-cells-requires c κs = search needs
+fill-cells-requires : tie.Need-fill-cells-requires
+fill-cells-requires c κs = search needs
 
 same-length : tie.Need-same-length
 same-length c = search needs
@@ -42,20 +42,20 @@ same-length-5 c = search needs
 
 returns : tie.Need-returns
 returns c =
-    summed-promised (c .before .before .before .before .before .before .before .before .before .before .before .before .before .before .before .before .before .before .before .before .before .before .before .before .before .before .before .before .before .before .before .before .before .before .before .before .before .before .before .before .before .before .before .before .before .before .before .pre) (c .before .before .before .before .before .before .before .before .before .before .before .before .before .before .before .before .before .before .before .before .before .before .before .before .before .before .before .before .before .before .search-amounts .ensures) (c .before .before .before .before .before .before .before .before .before .before .before .before .before .before .before .before .before .before .settle .ensures) (c .before .before .before .before .before .before .before .before .before .before .before .before .before .before .zero-floats2 .ensures)
-    (c .before .before .before .before .before .before .before .before .before .before .zero-bytes .ensures) (c .before .before .before .before .before .before .zero-bytes2 .ensures) (c .before .before .zero-cells .ensures)
+    summed-promised (c .before .before .before .before .before .before .before .before .before .before .before .before .before .before .before .before .before .before .before .before .before .before .before .before .before .before .before .before .before .before .before .before .before .before .before .before .before .before .before .before .before .before .before .before .before .before .before .pre) (c .before .before .before .before .before .before .before .before .before .before .before .before .before .before .before .before .before .before .before .before .before .before .before .before .before .before .before .before .before .before .search-amounts .ensures) (c .before .before .before .before .before .before .before .before .before .before .before .before .before .before .before .before .before .before .settle .ensures) (c .before .before .before .before .before .before .before .before .before .before .before .before .before .before .fill-floats2 .ensures)
+    (c .before .before .before .before .before .before .before .before .before .before .fill-bytes .ensures) (c .before .before .before .before .before .before .fill-bytes2 .ensures) (c .before .before .fill-cells .ensures)
 
 pub sum-targets-spec : {M : Type 1} → statement M
 sum-targets-spec =
     tie.close
     (tie.spec
-    zero-floats-requires
+    fill-floats-requires
     search-amounts-requires
     settle-requires
-    zero-floats-requires-2
-    zero-bytes-requires
-    zero-bytes-requires-2
-    zero-cells-requires
+    fill-floats-requires-2
+    fill-bytes-requires
+    fill-bytes-requires-2
+    fill-cells-requires
     same-length
     same-length-2
     same-length-3

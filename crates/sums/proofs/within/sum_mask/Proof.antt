@@ -5,26 +5,26 @@ use borrow.Author.Needs.{needs}
 use Rattle.sums.proofs.within.sum_mask.Statement.{statement}
 use Rattle.sums.proofs.within.sum_mask.Tie as tie
 
-zero-floats-requires : tie.Need-zero-floats-requires
-zero-floats-requires c κs = search needs
+fill-floats-requires : tie.Need-fill-floats-requires
+fill-floats-requires c κs = search needs
 
 search-mask-requires : tie.Need-search-mask-requires
-search-mask-requires c κs = mask-searching (c .before .before .before .before .before .before .before .before .before .before .before .before .before .before .before .before .before .before .before .pre) (c .before .before .before .before .before .before .before .before .zero-floats .ensures)
+search-mask-requires c κs = mask-searching (c .before .before .before .before .before .before .before .before .before .before .before .before .before .before .before .before .before .before .before .pre) (c .before .before .before .before .before .before .before .before .fill-floats .ensures)
 
-zero-floats-requires-2 : tie.Need-zero-floats-requires-2
-zero-floats-requires-2 c κs = search needs
+fill-floats-requires-2 : tie.Need-fill-floats-requires-2
+fill-floats-requires-2 c κs = search needs
 
-zero-bytes-requires : tie.Need-zero-bytes-requires
-zero-bytes-requires c κs = search needs
+fill-bytes-requires : tie.Need-fill-bytes-requires
+fill-bytes-requires c κs = search needs
 
-zero-cells-requires : tie.Need-zero-cells-requires
-zero-cells-requires c κs = search needs
+fill-cells-requires : tie.Need-fill-cells-requires
+fill-cells-requires c κs = search needs
 
-zero-cells-requires-2 : tie.Need-zero-cells-requires-2
-zero-cells-requires-2 c κs = search needs
+fill-cells-requires-2 : tie.Need-fill-cells-requires-2
+fill-cells-requires-2 c κs = search needs
 
-zero-cells-requires-3 : tie.Need-zero-cells-requires-3
-zero-cells-requires-3 c κs = search needs
+fill-cells-requires-3 : tie.Need-fill-cells-requires-3
+fill-cells-requires-3 c κs = search needs
 
 leave-answer-requires : tie.Need-leave-answer-requires
 leave-answer-requires c κs = search needs
@@ -49,20 +49,20 @@ same-length-6 c = search needs
 
 returns : tie.Need-returns
 returns c =
-    mask-promised (c .before .before .before .before .before .before .before .before .before .before .before .before .before .before .before .before .before .before .before .before .before .before .before .before .before .before .before .before .before .before .before .before .before .before .before .before .before .before .before .before .before .before .before .before .before .before .before .before .before .before .before .before .before .before .before .before .pre) (c .before .before .before .before .before .before .before .before .before .before .before .before .before .before .before .before .before .before .before .before .before .before .before .before .before .before .before .before .before .before .before .before .before .before .before .before .search-mask .ensures) (c .before .before .before .before .before .before .before .before .before .before .before .before .before .before .before .before .before .before .before .before .before .before .zero-floats2 .ensures) (c .before .before .before .before .before .before .before .before .before .before .before .before .before .before .before .before .before .before .zero-bytes .ensures)
-    (c .before .before .before .before .before .before .before .before .before .before .before .before .before .before .zero-cells .ensures) (c .before .before .before .before .before .before .before .before .before .before .zero-cells2 .ensures) (c .before .before .before .before .before .before .zero-cells3 .ensures) (c .before .before .leave-answer .ensures)
+    mask-promised (c .before .before .before .before .before .before .before .before .before .before .before .before .before .before .before .before .before .before .before .before .before .before .before .before .before .before .before .before .before .before .before .before .before .before .before .before .before .before .before .before .before .before .before .before .before .before .before .before .before .before .before .before .before .before .before .before .pre) (c .before .before .before .before .before .before .before .before .before .before .before .before .before .before .before .before .before .before .before .before .before .before .before .before .before .before .before .before .before .before .before .before .before .before .before .before .search-mask .ensures) (c .before .before .before .before .before .before .before .before .before .before .before .before .before .before .before .before .before .before .before .before .before .before .fill-floats2 .ensures) (c .before .before .before .before .before .before .before .before .before .before .before .before .before .before .before .before .before .before .fill-bytes .ensures)
+    (c .before .before .before .before .before .before .before .before .before .before .before .before .before .before .fill-cells .ensures) (c .before .before .before .before .before .before .before .before .before .before .fill-cells2 .ensures) (c .before .before .before .before .before .before .fill-cells3 .ensures) (c .before .before .leave-answer .ensures)
 
 pub sum-mask-spec : {M : Type 1} → statement M
 sum-mask-spec =
     tie.close
     (tie.spec
-    zero-floats-requires
+    fill-floats-requires
     search-mask-requires
-    zero-floats-requires-2
-    zero-bytes-requires
-    zero-cells-requires
-    zero-cells-requires-2
-    zero-cells-requires-3
+    fill-floats-requires-2
+    fill-bytes-requires
+    fill-cells-requires
+    fill-cells-requires-2
+    fill-cells-requires-3
     leave-answer-requires
     same-length
     same-length-2

@@ -10,14 +10,14 @@ spread-requires c κs = search needs
 settle-requires : tie.Need-settle-requires
 settle-requires c κs = search needs
 
-zero-floats-requires : tie.Need-zero-floats-requires
-zero-floats-requires c κs = search needs
+fill-floats-requires : tie.Need-fill-floats-requires
+fill-floats-requires c κs = search needs
 
-zero-bytes-requires : tie.Need-zero-bytes-requires
-zero-bytes-requires c κs = search needs
+fill-bytes-requires : tie.Need-fill-bytes-requires
+fill-bytes-requires c κs = search needs
 
-zero-cells-requires : tie.Need-zero-cells-requires
-zero-cells-requires c κs = search needs
+fill-cells-requires : tie.Need-fill-cells-requires
+fill-cells-requires c κs = search needs
 
 same-length : tie.Need-same-length
 same-length c = search needs
@@ -39,8 +39,8 @@ returns c =
     let settled = zeroed-floats .before .before .before .before in
     let found = settled .before .before .before .before .before .before .before .before .before .before in
     let start = found .before .before .before .before .before .before .before .before .before .before .before .before in
-    searched-promised (start .pre) (found .spread .ensures) (settled .settle .ensures) (zeroed-floats .zero-floats .ensures)
-    (zeroed-bytes .zero-bytes .ensures) (zeroed-cells .zero-cells .ensures)
+    searched-promised (start .pre) (found .spread .ensures) (settled .settle .ensures) (zeroed-floats .fill-floats .ensures)
+    (zeroed-bytes .fill-bytes .ensures) (zeroed-cells .fill-cells .ensures)
 
 pub search-values-spec : {M : Type 1} → statement M
 search-values-spec =
@@ -48,9 +48,9 @@ search-values-spec =
     (tie.spec
     spread-requires
     settle-requires
-    zero-floats-requires
-    zero-bytes-requires
-    zero-cells-requires
+    fill-floats-requires
+    fill-bytes-requires
+    fill-cells-requires
     same-length
     same-length-2
     same-length-3

@@ -1,12 +1,12 @@
--- `zero::fill_floats` meets its contract. Assumes nothing.
+-- `fill::fill_floats` meets its contract. Assumes nothing.
 use mathlib.Core.Path.{refl, _∙_}
 use Prim.Native.Nat.{_-_}
 use native.Mathlib.Omega.{arith}
 use borrow.Author.Needs.{needs}
 use lib.ListN.{length}
 use Rattle.calls.proofs.Turns.{MappedBelow, mapped-none, mapped-more, mapped-length, mapped-all, map-constant}
-use Rattle.calls.proofs.zero.fill_floats.Statement.{statement}
-use Rattle.calls.proofs.zero.fill_floats.Tie as tie
+use Rattle.calls.proofs.fill.fill_floats.Statement.{statement}
+use Rattle.calls.proofs.fill.fill_floats.Tie as tie
 
 abbrev Inv-loop : tie.InvT-loop
 Inv-loop floats₀ value i₀ i-end floats i = MappedBelow (λ _. value) floats₀ floats i

@@ -3,23 +3,22 @@ use binary32::nan;
 ghost use mathlib.Core.Path.{_≡_};
 ghost use lib.ListN.{length, replicate};
 ghost use lib.Ieee as Ieee;
-ghost use Rattle.binary32.specs.Numbers.{plus-zero};
 
-// Makes every mark 0.
-pub fn zero_bytes(bytes: &mut [u8])
-    ensures { λ _. ⌜ now (bytes .exit) ≡ replicate (length (now (bytes .entry))) 0 ⌝ }
+// Makes every mark this one.
+pub fn fill_bytes(bytes: &mut [u8], value: u8)
+    ensures { λ _. ⌜ now (bytes .exit) ≡ replicate (length (now (bytes .entry))) value ⌝ }
 {
     for i in 0..bytes.len() {
-        bytes[i] = 0;
+        bytes[i] = value;
     }
 }
 
-// Makes every cell index 0.
-pub fn zero_cells(cells: &mut [u32])
-    ensures { λ _. ⌜ now (cells .exit) ≡ replicate (length (now (cells .entry))) 0 ⌝ }
+// Makes every cell index this one.
+pub fn fill_cells(cells: &mut [u32], value: u32)
+    ensures { λ _. ⌜ now (cells .exit) ≡ replicate (length (now (cells .entry))) value ⌝ }
 {
     for i in 0..cells.len() {
-        cells[i] = 0;
+        cells[i] = value;
     }
 }
 
@@ -30,13 +29,6 @@ pub fn fill_floats(floats: &mut [f32], value: f32)
     for i in 0..floats.len() {
         floats[i] = value;
     }
-}
-
-// Makes every distance +0.0.
-pub fn zero_floats(floats: &mut [f32])
-    ensures { λ _. ⌜ now (floats .exit) ≡ replicate (length (now (floats .entry))) plus-zero ⌝ }
-{
-    fill_floats(floats, 0.0);
 }
 
 // Makes every answer the one NaN, as refusal 7 leaves them.

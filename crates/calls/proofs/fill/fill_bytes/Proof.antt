@@ -1,18 +1,18 @@
--- `zero::zero_bytes` meets its contract. Assumes nothing.
+-- `fill::fill_bytes` meets its contract. Assumes nothing.
 use mathlib.Core.Path.{refl, _∙_}
 use Prim.Native.Nat.{_-_}
 use native.Mathlib.Omega.{arith}
 use borrow.Author.Needs.{needs}
 use lib.ListN.{length}
 use Rattle.calls.proofs.Turns.{MappedBelow, mapped-none, mapped-more, mapped-length, mapped-all, map-constant}
-use Rattle.calls.proofs.zero.zero_bytes.Statement.{statement}
-use Rattle.calls.proofs.zero.zero_bytes.Tie as tie
+use Rattle.calls.proofs.fill.fill_bytes.Statement.{statement}
+use Rattle.calls.proofs.fill.fill_bytes.Tie as tie
 
 abbrev Inv-loop : tie.InvT-loop
-Inv-loop bytes₀ i₀ i-end bytes i = MappedBelow (λ _. 0) bytes₀ bytes i
+Inv-loop bytes₀ value i₀ i-end bytes i = MappedBelow (λ _. value) bytes₀ bytes i
 
 abbrev μ-loop : tie.MeasureT-loop
-μ-loop bytes₀ i₀ i-end bytes i = length bytes₀ - i
+μ-loop bytes₀ value i₀ i-end bytes i = length bytes₀ - i
 
 loop-holds : tie.Need-loop-holds Inv-loop μ-loop
 loop-holds c = mapped-none _ (c .args .bytes .now)
@@ -27,15 +27,15 @@ loop-less : tie.Need-loop-less Inv-loop μ-loop
 loop-less c = omega arith
 
 loop-again : tie.Need-loop-again Inv-loop μ-loop
-loop-again c = mapped-more _ 0 (c .before .loop .inv) (search needs) refl
+loop-again c = mapped-more _ (c .before .before .args .value) (c .before .loop .inv) (search needs) refl
 
 same-length : tie.Need-same-length Inv-loop μ-loop
 same-length c = mapped-length _ (c .before .loop .inv)
 
 returns : tie.Need-returns Inv-loop μ-loop
-returns c = mapped-all _ (c .before .loop .inv) (search needs) ∙ map-constant 0 (c .before .before .args .bytes .now)
+returns c = mapped-all _ (c .before .loop .inv) (search needs) ∙ map-constant (c .before .before .args .value) (c .before .before .args .bytes .now)
 
-pub zero-bytes-spec : {M : Type 1} → statement M
-zero-bytes-spec =
+pub fill-bytes-spec : {M : Type 1} → statement M
+fill-bytes-spec =
     tie.close
     (tie.spec Inv-loop μ-loop loop-holds slice-write-bytes add-i loop-less loop-again same-length returns)

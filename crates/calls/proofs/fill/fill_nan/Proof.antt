@@ -1,7 +1,7 @@
--- `zero::fill_nan` meets its contract. Assumes nothing.
+-- `fill::fill_nan` meets its contract. Assumes nothing.
 use borrow.Author.Needs.{needs}
-use Rattle.calls.proofs.zero.fill_nan.Statement.{statement}
-use Rattle.calls.proofs.zero.fill_nan.Tie as tie
+use Rattle.calls.proofs.fill.fill_nan.Statement.{statement}
+use Rattle.calls.proofs.fill.fill_nan.Tie as tie
 
 nan-requires : tie.Need-nan-requires
 nan-requires c κs = search needs
