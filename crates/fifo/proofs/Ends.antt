@@ -12,7 +12,7 @@ use Rattle.fifo.specs.Walk.{In}
 use Rattle.fifo.specs.Laws.{room, Enterable, Laws, Sound}
 use Rattle.fifo.proofs.Lists.{tested, true-or-false, same-or-not, in-back, joined-cases, without, length-without, in-without, no-dup-no-longer, in-passing}
 use Rattle.fifo.proofs.Induction.{awaiting, label-awaiting, label-unstored, after-store, waiting-store, Kept, take-keeps, take-appends, run-keeps, run-zero, run-head, takes-stopped}
-use Rattle.fifo.proofs.Runs.{empty-or-not, takes-add, takes-at-most, stops-by, run-past, takes-past}
+use Rattle.fifo.proofs.Runs.{empty-or-not, takes-add, takes-at-most, stops-by, run-past}
 use Rattle.fifo.proofs.Order.{not-below-itself}
 use Rattle.fifo.proofs.Sound.{room-at-most-cells, head-in, rest-in, head-once, head-good, head-step, candidate-good, candidate-inside, sound-awaiting, stored-inside, sound-kept, sound-take, sound-initial}
 
@@ -214,10 +214,6 @@ module _ {L : Type 0} {net : Net L} (laws : Laws net) where
       let stops = stops-by net square s (takes-within-square s sound (square + 1)) in
       rw (run-past net square k s stops enough) stops
 
-  -- The count of takes that were made is bounded: the measure of a loop that takes.
-  pub count-within-square : (s : State L) → Sound laws s → (k : ℕ) → takes net k s ≡ k → k ≤ room net * room net
-  count-within-square s sound k all = omega (arith, takes-within-square s sound k)
-
   room-squared : room net * room net ≤ net .cells * net .cells
   room-squared = mul-le-mul (room-at-most-cells net) (room-at-most-cells net)
 
@@ -229,16 +225,3 @@ module _ {L : Type 0} {net : Net L} (laws : Laws net) where
     takes-within-square (initial net) (sound-initial laws) (net .cells * net .cells),
     room-at-most-cells net,
   )
-
-  pub initial-count-within-square : (k : ℕ) → takes net k (initial net) ≡ k → k ≤ room net * room net
-  initial-count-within-square = count-within-square (initial net) (sound-initial laws)
-
-  -- A run from the start that stops, with each take made, is the search.
-  pub finish-is :
-      (k : ℕ) → takes net k (initial net) ≡ k → run net k (initial net) .waiting ≡ []
-      → (finish net ≡ run net k (initial net)) × (takes-of net ≡ k)
-  unfolding finish takes-of
-  finish-is k all stops =
-      let square = net .cells * net .cells in
-      let enough : k ≤ square = omega (arith, initial-count-within-square k all, room-squared) in
-      (run-past net k square (initial net) stops enough, takes-past net k square (initial net) stops enough ∙ all)

@@ -3,16 +3,16 @@ use mathlib.Core.Bool.{true, false}
 use mathlib.Core.List.{List, _∷_}
 use mathlib.Core.Logic.{_⊎_, inl, inr, ⊎-elim}
 use mathlib.Core.Path.{_≡_, refl, _∙_, subst}
-use Prim.Native.Nat.{ℕ, _<_, _≤_}
+use Prim.Native.Nat.{ℕ, _<_}
 use native.Mathlib.Omega.{arith}
 use lib.ListN.{length}
 use Rattle.fifo.specs.Machine.{Net, State, initial, label, store, relax, take, run}
 use Rattle.fifo.specs.Walk.{In, Starting, Walk, here, on}
-use Rattle.fifo.specs.Laws.{room, Enterable, Step, Laws, Sound, Relaxed, Accounted}
+use Rattle.fifo.specs.Laws.{Enterable, Step, Laws, Sound, Relaxed, Accounted}
 use Rattle.fifo.proofs.Lists.{is-true, true-or-false, same-or-not, in-or-not, in-joined, joiner-in, joined-cases, no-dup-joined, in-passing, no-dup-passing}
 use Rattle.fifo.proofs.Induction.{awaiting, label-stored, label-unstored, after-store, waiting-store, entered-store, relax-cases, Kept, take-keeps, take-reaches, run-keeps}
 use Rattle.fifo.proofs.Order.{not-below-itself, good-above, below-trans}
-use Rattle.fifo.proofs.Sound.{label-initial, passing-starts, at-most-room, head-in, rest-in, sound-awaiting, stored-inside, sound-store, not-below-stored, sound-take}
+use Rattle.fifo.proofs.Sound.{label-initial, passing-starts, head-in, rest-in, sound-awaiting, stored-inside, sound-store, not-below-stored, sound-take}
 
 module _ {L : Type 0} {net : Net L} (laws : Laws net) where
   -- A walk stays on cells that may be entered, with labels that travel.
@@ -22,14 +22,6 @@ module _ {L : Type 0} {net : Net L} (laws : Laws net) where
       let before = walk-good walk in
       let step : Step net u v f = record { source = before .0; listed = i } in
       (laws .step-inside step, laws .step-good step (before .1))
-
-  -- A walk begins at a starting cell.
-  pub walk-starts : {from c : ℕ} {d : L} → Walk net from c d → Starting net from
-  walk-starts (here starts) = starts
-  walk-starts (on f walk i) = walk-starts walk
-
-  pub entered-at-most-room : {pending : List ℕ} {s : State L} → Accounted laws pending s → length (s .entered) ≤ room net
-  entered-at-most-room {s = s} acc = at-most-room net (s .entered) (acc .entered-single) (λ c i. (walk-good ((acc .entered-walk c i) .1)) .0)
 
   -- What holds all through the take of u, which had the label d.
   record Scanning (u : ℕ) (d : L) (t : State L) : Type 0 where

@@ -2,12 +2,12 @@
 use mathlib.Core.Bool.{true, false}
 use mathlib.Core.List.{[]}
 use mathlib.Core.Logic.{_⊎_, inl, inr, ⊎-elim}
-use mathlib.Core.Path.{_≡_, sym, _∙_, subst}
+use mathlib.Core.Path.{_≡_, _∙_, subst}
 use Prim.Native.Nat.{ℕ, _*_}
 use Rattle.fifo.specs.Machine.{Net, State, initial, label, run, finish}
 use Rattle.fifo.specs.Walk.{In, Starting, Walk, here, on}
 use Rattle.fifo.specs.Laws.{Step, Laws, Held, Sound, Accounted, LeastSums}
-use Rattle.fifo.proofs.Lists.{tested, holds, true-or-false, in-or-not}
+use Rattle.fifo.proofs.Lists.{tested, holds, in-or-not}
 use Rattle.fifo.proofs.Order.{not-below-lower}
 use Rattle.fifo.proofs.Sound.{sound-run, sound-initial}
 use Rattle.fifo.proofs.Ends.{ends-within-square}
@@ -82,29 +82,3 @@ module _ {L : Type 0} {net : Net L} (laws : Laws net) where
   unfolding finish
   least-sums =
       least-sums-from (initial net) (sound-initial laws) (accounted-initial laws) (net .cells * net .cells) ((ends-within-square laws) .0)
-
-  -- Two states that hold the least sums have entered the same cells.
-  -- A cell that only s entered would have a label below the cap in s and the cap in t, but no walk gives less than t's label.
-  pub entered-agree : {s t : State L} → LeastSums laws s → LeastSums laws t → (c : ℕ) → In c (s .entered) → In c (t .entered)
-  entered-agree {s} {t} least-s least-t c k = ⊎-elim (λ i. i) (λ out. absurd (not-left out (tested (net .start c)))) (in-or-not c (t .entered))
-    where
-      not-left : (In c (t .entered) → ⊥) → (net .start c ≡ true) ⊎ (net .start c ≡ false) → ⊥
-      not-left out (inl starts) = out (least-t .start-entered c ((walk-good laws ((least-s .entered-met c k) .1)) .0 .0, holds starts))
-      not-left out (inr rests) =
-          let walk = (least-s .entered-met c k) .1 in
-          let at-cap = least-t .rest-first c out ∙ laws .cap-first c ((walk-good laws walk) .0) rests in
-          true-or-false (least-s .below-cap c k rests) (rw at-cap at (least-t .no-less walk))
-
-  -- And their labels are the same or level: each is a walk's, than which the other state has none less.
-  pub labels-agree :
-      {s t : State L} → LeastSums laws s → LeastSums laws t → (c : ℕ)
-      → (label net s c ≡ label net t c) ⊎ ((net .below (label net s c) (label net t c) ≡ false) × (net .below (label net t c) (label net s c) ≡ false))
-  labels-agree {s} {t} least-s least-t c = cases (in-or-not c (s .entered))
-    where
-      cases :
-          In c (s .entered) ⊎ (In c (s .entered) → ⊥)
-          → (label net s c ≡ label net t c) ⊎ ((net .below (label net s c) (label net t c) ≡ false) × (net .below (label net t c) (label net s c) ≡ false))
-      cases (inl k) =
-          let in-t = entered-agree least-s least-t c k in
-          inr (least-t .no-less ((least-s .entered-met c k) .1), least-s .no-less ((least-t .entered-met c in-t) .1))
-      cases (inr out) = inl (least-s .rest-first c out ∙ sym (least-t .rest-first c (λ k. out (entered-agree least-t least-s c k))))

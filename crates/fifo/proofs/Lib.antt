@@ -10,7 +10,6 @@ pub mod Sound
 pub mod Ends
 pub mod Labels
 pub mod LeastSums
-pub mod Taken
 pub mod Search
 pub mod Simulation
 pub mod Instance

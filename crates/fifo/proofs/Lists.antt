@@ -234,11 +234,6 @@ room-for-new n v ws single inside below new =
     omega arith
 
 -- A range cut in two.
-pub table-append : {L : Type 0} (f : ℕ → L) (i j k : ℕ) → table f i (j + k) ≡ table f i j ++ table f (i + j) k
-unfolding table
-table-append f i zero k = rw (zero-add, add-zero)
-table-append f i (suc j) k = rw (suc-add, add-suc, ← suc-add) (ap (λ l. f i ∷ l) (table-append f (suc i) j k))
-
 pub passing-append : (test : ℕ → Bool) (i j k : ℕ) → passing test i (j + k) ≡ passing test i j ++ passing test (i + j) k
 unfolding passing
 passing-append test i zero k = rw (zero-add, add-zero)

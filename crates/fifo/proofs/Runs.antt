@@ -1,12 +1,12 @@
 -- Counting takes: a run cut in two, one take more, and that a run which stops is determined. These hold of every net.
 use mathlib.Core.List.{List, [], _∷_, _++_, append-nil}
 use mathlib.Core.Logic.{_⊎_, inl, inr, ⊎-elim}
-use mathlib.Core.Path.{_≡_, refl, sym, ap, _∙_}
-use Prim.Native.Nat.{ℕ, suc, _+_, _-_, _*_, _≤_}
+use mathlib.Core.Path.{_≡_, refl, ap, _∙_}
+use Prim.Native.Nat.{ℕ, suc, _+_, _-_, _≤_}
 use native.Mathlib.Nat.{zero-add, suc-add}
 use native.Mathlib.Omega.{arith}
 use lib.ListN.{length}
-use Rattle.fifo.specs.Machine.{Net, State, initial, label, take, run, takes, trace, finish, takes-of}
+use Rattle.fifo.specs.Machine.{Net, State, label, take, run, takes, trace}
 use Rattle.fifo.proofs.Induction.{by-takes, run-zero, takes-zero, trace-zero, run-stopped, takes-stopped, trace-stopped, run-head, takes-head, trace-head}
 
 -- Nothing stands in the list, or it has a head.
@@ -82,19 +82,6 @@ module _ {L : Type 0} (net : Net L) where
       (λ k s e. rw (trace-stopped net (suc k) s e, takes-stopped net (suc k) s e))
       (λ k s u ws e later. rw (trace-head net k s u ws e, takes-head net k s u ws e) (ap suc later))
 
-  -- A run that may take more than it takes is the run of what it takes.
-  pub run-of-takes : (k : ℕ) (s : State L) → run net (takes net k s) s ≡ run net k s
-  run-of-takes =
-      by-takes net (λ k s. run net (takes net k s) s ≡ run net k s) (λ s. rw takes-zero)
-      (λ k s e. rw (takes-stopped net (suc k) s e, run-zero net s, run-stopped net (suc k) s e))
-      (λ k s u ws e later. rw (takes-head net k s u ws e, run-head net (takes net k (take net u ws s)) s u ws e, run-head net k s u ws e) later)
-
-  pub takes-of-takes : (k : ℕ) (s : State L) → takes net (takes net k s) s ≡ takes net k s
-  takes-of-takes =
-      by-takes net (λ k s. takes net (takes net k s) s ≡ takes net k s) (λ s. rw (takes-zero net s) (takes-zero net s))
-      (λ k s e. rw (takes-stopped net (suc k) s e, takes-zero net s))
-      (λ k s u ws e later. rw (takes-head net k s u ws e, takes-head net (takes net k (take net u ws s)) s u ws e) (ap suc later))
-
   -- Past a stop nothing changes.
   pub run-past : (j k : ℕ) (s : State L) → run net j s .waiting ≡ [] → j ≤ k → run net k s ≡ run net j s
   run-past j k s stops le =
@@ -129,9 +116,3 @@ module _ {L : Type 0} (net : Net L) where
   determined j k s all-j all-k stops-j stops-k =
       let same : j ≡ k = omega (arith, takes-settled j k s stops-j, takes-settled k j s stops-k) in
       (same, ap (λ n. run net n s) same)
-
-  -- The search is the run of exactly its takes.
-  pub finish-is-run : (finish net ≡ run net (takes-of net) (initial net)) × (takes net (takes-of net) (initial net) ≡ takes-of net)
-  unfolding finish takes-of
-  finish-is-run =
-      (sym (run-of-takes (net .cells * net .cells) (initial net)), takes-of-takes (net .cells * net .cells) (initial net))

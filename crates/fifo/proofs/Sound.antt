@@ -10,7 +10,7 @@ use lib.ListN.{length, getD}
 use Rattle.fifo.specs.Machine.{Net, State, table, passing, initial, label, store, take, run}
 use Rattle.fifo.specs.Walk.{In, NoDup, Starting}
 use Rattle.fifo.specs.Laws.{room, Enterable, Step, Laws, Held, Sound}
-use Rattle.fifo.proofs.Lists.{tested, holds, is-true, true-or-false, joined-cases, no-dup-joined, no-dup-no-longer, in-passing, passing-in, no-dup-passing, length-passing, length-table, getD-table}
+use Rattle.fifo.proofs.Lists.{tested, holds, is-true, true-or-false, joined-cases, no-dup-joined, passing-in, no-dup-passing, length-passing, length-table, getD-table}
 use Rattle.fifo.proofs.Induction.{awaiting, after-store, label-unstored, label-awaiting, length-store, waiting-store, Kept, take-keeps, run-keeps}
 use Rattle.fifo.proofs.Order.{not-below-lower}
 
@@ -29,19 +29,8 @@ pub room-at-most-cells : {L : Type 0} (net : Net L) → room net ≤ net .cells
 unfolding room
 room-at-most-cells net = length-passing (net .enterable) 0 (net .cells)
 
--- Cells that may be entered, each listed once, are no more than there is room for.
-pub at-most-room : {L : Type 0} (net : Net L) (l : List ℕ) → NoDup l → ((c : ℕ) → In c l → Enterable net c) → length l ≤ room net
-unfolding room
-at-most-room net l single all = no-dup-no-longer l (passing (net .enterable) 0 (net .cells)) single listed
-  where
-    listed : (c : ℕ) → In c l → In c (passing (net .enterable) 0 (net .cells))
-    listed c i = let may = all c i in in-passing (net .enterable) 0 (net .cells) c (omega arith) (omega (arith, may .0)) (may .1)
-
 module _ {L : Type 0} {net : Net L} (laws : Laws net) where
   module _ {s : State L} (sound : Sound laws s) where
-    pub waiting-at-most-room : length (s .waiting) ≤ room net
-    waiting-at-most-room = at-most-room net (s .waiting) (sound .single) (λ c i. (sound .waits c i) .0)
-
     module _ {u : ℕ} {ws : List ℕ} (e : s .waiting ≡ u ∷ ws) where
       pub head-in : In u (s .waiting)
       head-in = subst (In u) (sym e) (inl refl)
@@ -124,24 +113,6 @@ module _ {L : Type 0} {net : Net L} (laws : Laws net) where
       held : (c : ℕ) → Enterable net c → (net .start c ≡ true) ⊎ (net .start c ≡ false) → Held laws (net .first c)
       held c may (inl starts) = inl (laws .start-good c (may .0, holds starts))
       held c may (inr rests) = rw (laws .cap-first c may rests) (laws .cap-held)
-
-  -- Labels never rise.
-  pub never-rises :
-      (c : ℕ) {y : L} → laws .Good y
-      → (k : ℕ) (s : State L) → Sound laws s → net .below y (label net s c) ≡ false → net .below y (label net (run net k s) c) ≡ false
-  never-rises c {y} good-y k s sound above = (run-keeps net Above taken k s (sound, above)) .1
-    where
-      Above : State L → Type 0
-      Above t = Sound laws t × (net .below y (label net t c) ≡ false)
-
-      taken : (u : ℕ) (ws : List ℕ) (t : State L) → t .waiting ≡ u ∷ ws → Above t → Above (take net u ws t)
-      taken u ws t e p = take-keeps net Above u ws t kept (sound-awaiting (p .0) e, rw (label-awaiting net ws t c) (p .1))
-        where
-          kept : Kept net Above (label net t u) (net .nbrs u)
-          kept v f i r lower q = (
-            sound-kept (p .0) e v f i r lower (q .0),
-            not-below-stored v (f (label net t u)) r (candidate-inside (p .0) e v f i) (candidate-good (p .0) e v f i) (q .0) lower c good-y (q .1),
-          )
 
   -- The label of a cell that may not be entered never changes.
   pub closed-kept : (c : ℕ) → net .enterable c ≡ false → (k : ℕ) (s : State L) → Sound laws s → label net (run net k s) c ≡ label net s c
