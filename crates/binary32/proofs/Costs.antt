@@ -1,14 +1,13 @@
 -- What makes a cost: sums of costs, and products of a positive number and a cost, are costs. Assumes nothing.
 use mathlib.Core.Path.{_≡_, sym, ap, _∙_, subst}
-use mathlib.Core.Bool.{Bool, true, false, _&&_, cond, false≢true}
+use mathlib.Core.Bool.{Bool, true, false, _&&_, cond}
 use Prim.Native.Nat.{ℕ, zero, suc, _+_, _-_, _*_, zero-le}
-use native.Mathlib.Nat.{add-zero, zero-mul, mul-zero, mul-pos, lt-of-le-of-lt}
+use native.Mathlib.Nat.{add-zero, zero-mul, mul-zero, mul-pos}
 use lib.IntN.{ℤ, pos}
-use lib.Dec.{T, ltb, eqb·suc-zero, ltb→lt, lt→ltb}
-use lib.Ieee.{Float, nan, inf, fin, Format, binary32, up, down, round, sum, add, mul, lt, ofBits}
+use lib.Dec.{T, ltb, eqb·suc-zero}
+use lib.Ieee.{Float, nan, inf, fin, Format, binary32, up, down, round, sum, add, mul}
 use lib.Ieee.Fits.{down-pos, add-fits, mul-fits}
-use lib.Ieee.Positive.{positive, first-pos}
-use Rattle.binary32.specs.Numbers.{plus-zero}
+use lib.Ieee.Positive.{positive}
 use Rattle.binary32.specs.FromZero.{sign-clear, NonNegative}
 use Rattle.binary32.proofs.Shapes.{le→not-ltb, infinite, number, clear-shape, NotBelowZero, plus, minus-zero, cost-shape, non-negative}
 use Rattle.binary32.proofs.Rounding.{round-clear, round-zero}
@@ -60,15 +59,3 @@ product-shape f (fin false (suc m) e) s-positive (minus-zero d) =
 -- With -0 it gives -0, and with any other cost a value whose sign is clear.
 pub product-non-negative : (s : Float) {b : Float} → T (positive s) → NonNegative b → NonNegative (mul binary32 s b)
 product-non-negative s {b} s-positive b-good = non-negative (mul-fits binary32 s b) (product-shape binary32 s s-positive (cost-shape b-good))
-
--- ---- numbers above 0
-
--- What lies above +0 and below +infinity is a number above 0.
-pub positive-of-between : (s : Float) → lt plus-zero s ≡ true → lt s (inf false) ≡ true → T (positive s)
-unfolding lt ofBits
-positive-of-between nan above below = absurd (false≢true above)
-positive-of-between (inf true) above below = absurd (false≢true above)
-positive-of-between (inf false) above below = absurd (false≢true below)
-positive-of-between (fin true m e) above below = absurd (false≢true above)
-positive-of-between (fin false m e) above below =
-    lt→ltb 0 m (first-pos m (up e) (first-pos (m * up e) 1 (lt-of-le-of-lt zero-le (ltb→lt (0 * 1 * down e) (m * up e * 1) (subst T (sym above) tt)))))

@@ -1,17 +1,15 @@
 -- The order on the values from +0 to +infinity. `lt y x ≡ false` says that x is at most y. Assumes nothing.
-use mathlib.Core.Path.{_≡_, refl, sym, _∙_, subst}
-use mathlib.Core.Logic.{_⊎_, inl, inr, _↔_}
+use mathlib.Core.Path.{_≡_, refl, sym, subst}
+use mathlib.Core.Logic.{_⊎_, inl, inr}
 use mathlib.Core.Bool.{Bool, true, false, not, _&&_, _||_, true≢false, false≢true}
 use Prim.Native.Nat.{ℕ, _*_, _≤_, _<_}
-use native.Mathlib.Nat.{le-refl, le-of-eq, le-of-lt, le-antisymm}
+use native.Mathlib.Nat.{le-refl, le-of-eq, le-of-lt}
 use lib.Dec.{T, ltb, eqb, ltb→lt, eqb→eq}
 use lib.Ieee.{Float, nan, inf, fin, binary32, up, down, lt, le, fits, isNan}
 use lib.Ieee.Fits.{down-pos}
 use lib.Ieee.Positive.{through}
-use lib.Ieee.Order.{le-of-values}
 use Rattle.binary32.specs.Numbers.{plus-zero}
 use Rattle.binary32.specs.FromZero.{sign-clear, Distance}
-use Rattle.binary32.proofs.Exact.{same-number}
 use Rattle.binary32.proofs.Shapes.{not-ltb→le, le→not-ltb, FromPlusZero, infinite, number, distance-shape, distance-is-non-negative}
 
 -- ---- the order
@@ -52,45 +50,6 @@ one-way (number m e) (number n d) h = le→not-ltb (m * up e * down d) (n * up d
 -- Of two distances at most one is below the other.
 pub lt-asymmetric : {x y : Float} → Distance x → Distance y → lt x y ≡ true → lt y x ≡ false
 lt-asymmetric x-good y-good h = one-way (distance-shape x-good) (distance-shape y-good) h
-
-not-false : (b : Bool) → (b ≡ false → ⊥) → b ≡ true
-not-false true h = refl
-not-false false h = absurd (h refl)
-
--- x below y, and y at most z. Proof: were z at most x, then y would be at most x.
-pub lt-not-lt-transitive : {x y z : Float} → Distance x → Distance y → Distance z → lt x y ≡ true → lt z y ≡ false → lt x z ≡ true
-lt-not-lt-transitive {x} {y} {z} x-good y-good z-good h k =
-    not-false (lt x z) (λ (l : lt x z ≡ false). true≢false (sym h ∙ not-lt-transitive y-good z-good x-good k l))
-
--- x at most y, and y below z.
-pub not-lt-lt-transitive : {x y z : Float} → Distance x → Distance y → Distance z → lt y x ≡ false → lt y z ≡ true → lt x z ≡ true
-not-lt-lt-transitive {x} {y} {z} x-good y-good z-good h k =
-    not-false (lt x z) (λ (l : lt x z ≡ false). true≢false (sym k ∙ not-lt-transitive z-good x-good y-good l h))
-
-pub lt-transitive : {x y z : Float} → Distance x → Distance y → Distance z → lt x y ≡ true → lt y z ≡ true → lt x z ≡ true
-lt-transitive x-good y-good z-good h k = lt-not-lt-transitive x-good y-good z-good h (lt-asymmetric y-good z-good k)
-
-antisymmetric : {x y : Float} → FromPlusZero x → FromPlusZero y → T (fits binary32 x) → T (fits binary32 y) → lt x y ≡ false → lt y x ≡ false → x ≡ y
-unfolding lt
-antisymmetric infinite infinite x-fits y-fits h k = refl
-antisymmetric infinite (number n d) x-fits y-fits h k = absurd (true≢false k)
-antisymmetric (number m e) infinite x-fits y-fits h k = absurd (true≢false h)
-antisymmetric (number m e) (number n d) x-fits y-fits h k =
-    same-number binary32 false m e n d x-fits y-fits
-    (le-antisymm (not-ltb→le (m * up e * down d) (n * up d * down e) k) (not-ltb→le (n * up d * down e) (m * up e * down d) h))
-
--- Two distances of which neither is below the other are the same value. Proof: they are the same number, and a number that fits has one form.
-pub not-lt-antisymmetric : {x y : Float} → Distance x → Distance y → lt x y ≡ false → lt y x ≡ false → x ≡ y
-not-lt-antisymmetric x-good y-good h k = antisymmetric (distance-shape x-good) (distance-shape y-good) (x-good .held) (y-good .held) h k
-
--- Of two distances one is below the other, or they are the same value.
-pub lt-total : {x y : Float} → Distance x → Distance y → (lt x y ≡ true) ⊎ ((lt y x ≡ true) ⊎ (x ≡ y))
-lt-total {x} {y} x-good y-good = go (lt x y) (lt y x) refl refl
-  where
-    go : (b c : Bool) → lt x y ≡ b → lt y x ≡ c → (lt x y ≡ true) ⊎ ((lt y x ≡ true) ⊎ (x ≡ y))
-    go true c h k = inl h
-    go false true h k = inr (inl k)
-    go false false h k = inr (inr (not-lt-antisymmetric x-good y-good h k))
 
 -- ---- the two ends
 
@@ -137,15 +96,3 @@ le→not-lt infinite infinite h = refl
 le→not-lt infinite (number n d) h = absurd h
 le→not-lt (number m e) infinite h = refl
 le→not-lt (number m e) (number n d) h = le→not-ltb (m * up e * down d) (n * up d * down e) (test→le (m * up e * down d) (n * up d * down e) h)
-
-not-lt→le : {x y : Float} → FromPlusZero x → FromPlusZero y → lt y x ≡ false → T (le x y)
-unfolding lt le
-not-lt→le infinite infinite h = tt
-not-lt→le infinite (number n d) h = absurd (true≢false h)
-not-lt→le (number m e) infinite h = tt
-not-lt→le (number m e) (number n d) h =
-    le-of-values (fin false m e) (fin false n d) (m * up e) (down e) (n * up d) (down d) (down-pos e) (down-pos d) (refl, refl) (refl, refl) (not-ltb→le (m * up e * down d) (n * up d * down e) h)
-
--- Of distances, `<=` is the same as not `>`.
-pub le-iff-not-lt : {x y : Float} → Distance x → Distance y → T (le x y) ↔ (lt y x ≡ false)
-le-iff-not-lt x-good y-good = (le→not-lt (distance-shape x-good) (distance-shape y-good), not-lt→le (distance-shape x-good) (distance-shape y-good))

@@ -27,7 +27,7 @@ bits-are f s m e = refl
 
 -- Two values that a format holds are the same where they have the same sign and the same size.
 -- Proof: the bits of a value are worked out from its sign and its size alone, and a value that fits comes back from its bits.
-pub same-number : (f : Format) (s : Bool) (m : ℕ) (e : ℤ) (n : ℕ) (d : ℤ) → T (fits f (fin s m e)) → T (fits f (fin s n d)) → m * up e * down d ≡ n * up d * down e → fin s m e ≡ fin s n d
+same-number : (f : Format) (s : Bool) (m : ℕ) (e : ℤ) (n : ℕ) (d : ℤ) → T (fits f (fin s m e)) → T (fits f (fin s n d)) → m * up e * down d ≡ n * up d * down e → fin s m e ≡ fin s n d
 same-number f s m e n d x-fits y-fits same =
     let units = 2 ^ low f in
     let in-units : m * up e * units * down d ≡ n * up d * units * down e =

@@ -2,7 +2,7 @@
 use mathlib.Core.Path.{_≡_, refl, sym, ap, _∙_, subst}
 use mathlib.Core.Bool.{Bool, true, false, cond}
 use Prim.Native.Nat.{ℕ, zero, suc, _+_, _-_, _*_, _^_, _≤_, _<_}
-use native.Mathlib.Nat.{le-trans, le-of-eq, lt-of-lt-of-le, lt-of-not-le, not-le-of-lt, lt-irrefl, zero-lt-suc, le-add-right, le-add-left, mul-one, one-mul, mul-comm, mul-assoc, mul-left-comm, add-mul, mul-mul-mul-comm, mul-le-mul-left, le-mul-of-pos-right, pow-suc, mul-lt-mul-of-pos-right, mul-pos}
+use native.Mathlib.Nat.{le-trans, le-of-eq, lt-of-lt-of-le, lt-of-not-le, not-le-of-lt, lt-irrefl, zero-lt-suc, le-add-right, le-add-left, mul-one, mul-comm, mul-assoc, mul-left-comm, add-mul, mul-mul-mul-comm, mul-le-mul-left, le-mul-of-pos-right, pow-suc, mul-lt-mul-of-pos-right, mul-pos}
 use native.Mathlib.Omega.{arith}
 use native.Mathlib.Numerals.{add-one}
 use lib.IntN.{ℤ, pos, negsuc}
@@ -12,7 +12,7 @@ use lib.Ieee.{Float, nan, inf, fin, Format, binary32, binary64, prec, low, unlik
 use lib.Ieee.Fits.{up-pos, down-pos}
 use lib.Ieee.Exact.{HasValue, round-exact}
 use lib.Ieee.Back.{round-whole}
-use lib.Ieee.Positive.{positive, first-pos, positive-of-value}
+use lib.Ieee.Positive.{first-pos}
 use lib.Ieee.Scale.{round-same}
 use Rattle.binary32.specs.Numbers.{one, two}
 use Rattle.binary32.proofs.Spacing.{few-digits}
@@ -108,10 +108,6 @@ unlike-plus : (s : Bool) → unlike s false ≡ s
 unlike-plus true = refl
 unlike-plus false = refl
 
-unlike-plus-left : (s : Bool) → unlike false s ≡ s
-unlike-plus-left true = refl
-unlike-plus-left false = refl
-
 -- Every value that fits, the NaN, the infinities and the zeros with their sign among them, is the same after a multiplication by 1.
 pub times-one-exact : (f : Format) (x : Float) → T (fits f x) → mul f x one ≡ x
 unfolding mul ofBits
@@ -122,16 +118,6 @@ times-one-exact f (fin s m e) h =
     mul-rounds f (fin s m e) one s false (m * up e) (down e) 1 1 (down-pos e) (zero-lt-suc 0) (refl, refl) one-value
     ∙ ap (λ (r : Bool). round f r (m * up e * 1) (down e * 1)) (unlike-plus s)
     ∙ round-held f (fin s m e) s (m * up e * 1) (down e * 1) (mul-pos (down-pos e) (zero-lt-suc 0)) h (refl, simp (mul-one))
-
-pub one-times-exact : (f : Format) (x : Float) → T (fits f x) → mul f one x ≡ x
-unfolding mul ofBits
-one-times-exact f nan h = refl
-one-times-exact f (inf true) h = refl
-one-times-exact f (inf false) h = refl
-one-times-exact f (fin s m e) h =
-    mul-rounds f one (fin s m e) false s 1 1 (m * up e) (down e) (zero-lt-suc 0) (down-pos e) one-value (refl, refl)
-    ∙ ap (λ (r : Bool). round f r (1 * (m * up e)) (1 * down e)) (unlike-plus-left s)
-    ∙ round-held f (fin s m e) s (1 * (m * up e)) (1 * down e) (mul-pos (zero-lt-suc 0) (down-pos e)) h (refl, simp (one-mul))
 
 -- ---- halves
 
@@ -168,9 +154,3 @@ half-exact f s m e h big =
     ∙ ap (λ (n : ℕ). round f s n (down e * 2)) (mul-one (m * up e)) in
     subst (λ (x : Float). HasValue x s (m * up e) (down e * 2)) (sym rounded)
     (round-exact f s (m * up e) (down e * 2) m (units .0) (mul-pos (down-pos e) (zero-lt-suc 1)) short (in-range f s m e (units .0) h less) (units .1))
-
--- And half of such a number above 0 is above 0.
-pub half-positive : (f : Format) (m : ℕ) (e : ℤ) → T (fits f (fin false m e)) → 2 ^ prec f * down e ≤ m * up e * 2 ^ low f → T (positive (div f (fin false m e) two))
-half-positive f m e h big =
-    positive-of-value (div f (fin false m e) two) (m * up e) (down e * 2) (half-exact f false m e h big)
-    (first-pos (m * up e) (2 ^ low f) (lt-of-lt-of-le (mul-pos (pow-pos (prec f)) (down-pos e)) big))

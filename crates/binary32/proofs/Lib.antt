@@ -7,7 +7,6 @@ pub mod Shapes
 pub mod DistanceOrder
 pub mod Rounding
 pub mod Sums
-pub mod Products
 pub mod Costs
 pub mod NearestRoot
 pub mod RootOfTwo
