@@ -3,13 +3,14 @@ use mathlib.Core.Path.{_≡_, sym, ap, _∙_, subst}
 use mathlib.Core.Bool.{Bool, true, false, _&&_, cond}
 use Prim.Native.Nat.{ℕ, zero, suc, _+_, _-_, _*_, zero-le}
 use native.Mathlib.Nat.{add-zero, zero-mul, mul-zero, mul-pos}
+use borrow.Author.Tests.{le-ltb}
 use lib.IntN.{ℤ, pos}
 use lib.Dec.{T, ltb, eqb·suc-zero}
 use lib.Ieee.{Float, nan, inf, fin, Format, binary32, up, down, round, sum, add, mul}
 use lib.Ieee.Fits.{down-pos, add-fits, mul-fits}
 use lib.Ieee.Positive.{positive}
 use Rattle.binary32.specs.FromZero.{sign-clear, NonNegative}
-use Rattle.binary32.proofs.Shapes.{le→not-ltb, infinite, number, clear-shape, NotBelowZero, plus, minus-zero, cost-shape, non-negative}
+use Rattle.binary32.proofs.Shapes.{infinite, number, clear-shape, NotBelowZero, plus, minus-zero, cost-shape, non-negative}
 use Rattle.binary32.proofs.Rounding.{round-clear, round-zero}
 use Rattle.binary32.proofs.Sums.{sum-clear}
 
@@ -19,7 +20,7 @@ use Rattle.binary32.proofs.Sums.{sum-clear}
 sum-after-minus-zero : (f : Format) (b c : ℕ) → T (sign-clear (sum f true 0 false b c))
 unfolding sum
 sum-after-minus-zero f b c =
-    subst (λ (t : Bool). T (sign-clear (cond (ltb 0 b) (round f false (b - 0) c) (round f (true && t) (0 - b) c)))) (sym (le→not-ltb 0 b zero-le)) (go (ltb 0 b))
+    subst (λ (t : Bool). T (sign-clear (cond (ltb 0 b) (round f false (b - 0) c) (round f (true && t) (0 - b) c)))) (sym (le-ltb b 0 zero-le)) (go (ltb 0 b))
   where
     go : (t : Bool) → T (sign-clear (cond t (round f false (b - 0) c) (round f false (0 - b) c)))
     go true = round-clear f (b - 0) c

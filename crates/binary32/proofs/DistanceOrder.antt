@@ -4,13 +4,14 @@ use mathlib.Core.Logic.{_⊎_, inl, inr}
 use mathlib.Core.Bool.{Bool, true, false, not, _&&_, _||_, true≢false, false≢true}
 use Prim.Native.Nat.{ℕ, _*_, _≤_, _<_}
 use native.Mathlib.Nat.{le-refl, le-of-eq, le-of-lt}
+use borrow.Author.Tests.{ltb-false, le-ltb}
 use lib.Dec.{T, ltb, eqb, ltb→lt, eqb→eq}
 use lib.Ieee.{Float, nan, inf, fin, binary32, up, down, lt, le, fits, isNan}
 use lib.Ieee.Fits.{down-pos}
 use lib.Ieee.Positive.{through}
 use Rattle.binary32.specs.Numbers.{plus-zero}
 use Rattle.binary32.specs.FromZero.{sign-clear, Distance}
-use Rattle.binary32.proofs.Shapes.{not-ltb→le, le→not-ltb, FromPlusZero, infinite, number, distance-shape, distance-is-non-negative}
+use Rattle.binary32.proofs.Shapes.{FromPlusZero, infinite, number, distance-shape, distance-is-non-negative}
 
 -- ---- the order
 
@@ -20,8 +21,8 @@ unfolding lt
 lt-irreflexive nan = refl
 lt-irreflexive (inf true) = refl
 lt-irreflexive (inf false) = refl
-lt-irreflexive (fin true m e) = let a = m * up e * down e in le→not-ltb a a (le-refl a)
-lt-irreflexive (fin false m e) = let a = m * up e * down e in le→not-ltb a a (le-refl a)
+lt-irreflexive (fin true m e) = let a = m * up e * down e in le-ltb a a (le-refl a)
+lt-irreflexive (fin false m e) = let a = m * up e * down e in le-ltb a a (le-refl a)
 
 transitive : {x y z : Float} → FromPlusZero x → FromPlusZero y → FromPlusZero z → lt y x ≡ false → lt z y ≡ false → lt z x ≡ false
 unfolding lt
@@ -33,8 +34,8 @@ transitive (number m e) infinite infinite h k = refl
 transitive (number m e) infinite (number p g) h k = absurd (true≢false k)
 transitive (number m e) (number n d) infinite h k = refl
 transitive (number m e) (number n d) (number p g) h k =
-    le→not-ltb (m * up e * down g) (p * up g * down e)
-    (through (m * up e) (n * up d) (p * up g) (down e) (down d) (down g) (down-pos d) (not-ltb→le (m * up e * down d) (n * up d * down e) h) (not-ltb→le (n * up d * down g) (p * up g * down d) k))
+    le-ltb (p * up g * down e) (m * up e * down g)
+    (through (m * up e) (n * up d) (p * up g) (down e) (down d) (down g) (down-pos d) (ltb-false (n * up d * down e) (m * up e * down d) h) (ltb-false (p * up g * down d) (n * up d * down g) k))
 
 -- At most is transitive. Proof: below +infinity it is the order of fractions, and nothing but +infinity is at least +infinity.
 pub not-lt-transitive : {x y z : Float} → Distance x → Distance y → Distance z → lt y x ≡ false → lt z y ≡ false → lt z x ≡ false
@@ -45,7 +46,7 @@ unfolding lt
 one-way infinite infinite h = refl
 one-way infinite (number n d) h = absurd (false≢true h)
 one-way (number m e) infinite h = refl
-one-way (number m e) (number n d) h = le→not-ltb (m * up e * down d) (n * up d * down e) (le-of-lt (ltb→lt (m * up e * down d) (n * up d * down e) (subst T (sym h) tt)))
+one-way (number m e) (number n d) h = le-ltb (n * up d * down e) (m * up e * down d) (le-of-lt (ltb→lt (m * up e * down d) (n * up d * down e) (subst T (sym h) tt)))
 
 -- Of two distances at most one is below the other.
 pub lt-asymmetric : {x y : Float} → Distance x → Distance y → lt x y ≡ true → lt y x ≡ false
@@ -95,4 +96,4 @@ unfolding lt le
 le→not-lt infinite infinite h = refl
 le→not-lt infinite (number n d) h = absurd h
 le→not-lt (number m e) infinite h = refl
-le→not-lt (number m e) (number n d) h = le→not-ltb (m * up e * down d) (n * up d * down e) (test→le (m * up e * down d) (n * up d * down e) h)
+le→not-lt (number m e) (number n d) h = le-ltb (n * up d * down e) (m * up e * down d) (test→le (m * up e * down d) (n * up d * down e) h)

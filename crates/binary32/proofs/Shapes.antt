@@ -1,24 +1,16 @@
 -- The shapes that a distance and a cost have, for proofs by cases. Assumes nothing.
-use mathlib.Core.Path.{_≡_, refl, sym, subst}
-use mathlib.Core.Bool.{Bool, true, false, not, true≢false}
+use mathlib.Core.Path.{_≡_, refl, subst}
+use mathlib.Core.Bool.{true, false, true≢false}
 use Prim.Native.Nat.{ℕ, zero, suc, _+_, _*_, _≤_, zero-le}
-use native.Mathlib.Nat.{le-trans, le-of-eq, le-add-right, lt-of-lt-of-le, not-le-of-lt, zero-lt-suc, zero-mul, mul-pos}
+use native.Mathlib.Nat.{le-trans, le-of-eq, le-add-right, lt-of-lt-of-le, zero-lt-suc, zero-mul, mul-pos}
+use borrow.Author.Tests.{le-ltb}
 use lib.IntN.{ℤ}
-use lib.Dec.{T, ltb, not-T, ltb→lt, lt→ltb, nltb→le}
+use lib.Dec.{T, ltb, lt→ltb}
 use lib.Ieee.{Float, nan, inf, fin, binary32, up, down, lt, fits, isNan, ofBits}
-use lib.Ieee.Bits.{is-false}
 use lib.Ieee.Fits.{up-pos, inf-fits}
 use lib.Ieee.Positive.{positive}
 use Rattle.binary32.specs.Numbers.{plus-zero}
 use Rattle.binary32.specs.FromZero.{sign-clear, Distance, NonNegative}
-
--- ---- the test on whole numbers
-
-pub not-ltb→le : (a b : ℕ) → ltb b a ≡ false → a ≤ b
-not-ltb→le a b h = nltb→le b a (subst (λ (t : Bool). T (not t)) (sym h) tt)
-
-pub le→not-ltb : (a b : ℕ) → a ≤ b → ltb b a ≡ false
-le→not-ltb a b h = is-false (ltb b a) (not-T (ltb b a) (λ (t : T (ltb b a)). not-le-of-lt (ltb→lt b a t) h))
 
 -- ---- what a distance is: +infinity, or a number with the sign clear
 
@@ -78,8 +70,8 @@ no-zero-below e = le-of-eq (simp zero-mul)
 is-not-below : {x : Float} → NotBelowZero x → lt x plus-zero ≡ false
 unfolding lt ofBits
 is-not-below (plus infinite) = refl
-is-not-below (plus (number m e)) = le→not-ltb (0 * 1 * down e) (m * up e * 1) (le-trans (le-of-eq (zero-mul (down e))) zero-le)
-is-not-below (minus-zero e) = le→not-ltb (0 * up e * 1 + 0 * 1 * down e) 0 (no-zero-below e)
+is-not-below (plus (number m e)) = le-ltb (m * up e * 1) (0 * 1 * down e) (le-trans (le-of-eq (zero-mul (down e))) zero-le)
+is-not-below (minus-zero e) = le-ltb 0 (0 * up e * 1 + 0 * 1 * down e) (no-zero-below e)
 
 pub non-negative : {x : Float} → T (fits binary32 x) → NotBelowZero x → NonNegative x
 non-negative held x-shape = record { held = held; not-nan = is-number x-shape; not-below = is-not-below x-shape }

@@ -4,6 +4,7 @@ use mathlib.Core.Bool.{Bool, true, false, cond, true≢false}
 use Prim.Native.Nat.{ℕ, _+_, _-_, _*_, _≤_, zero-le}
 use native.Mathlib.Nat.{le-trans, le-of-eq, zero-lt-suc, add-le-add, add-mul, add-zero, sub-zero, zero-mul, mul-one, mul-comm, mul-assoc, mul-left-comm, mul-mul-mul-comm, mul-le-mul-right, mul-pos}
 use native.Mathlib.Omega.{arith}
+use borrow.Author.Tests.{ltb-false, le-ltb}
 use lib.IntN.{ℤ, pos}
 use lib.Dec.{T}
 use lib.Ieee.{Float, inf, fin, Format, binary32, up, down, round, sum, add, lt, fits, ofBits}
@@ -13,7 +14,7 @@ use lib.Ieee.Scale.{finite}
 use Rattle.binary32.specs.Numbers.{plus-zero}
 use Rattle.binary32.specs.FromZero.{sign-clear, Distance, NonNegative}
 use Rattle.binary32.proofs.Exact.{round-held}
-use Rattle.binary32.proofs.Shapes.{not-ltb→le, le→not-ltb, FromPlusZero, infinite, number, distance-shape, NotBelowZero, plus, minus-zero, cost-shape, plus-zero-is-distance, distance-is-non-negative}
+use Rattle.binary32.proofs.Shapes.{FromPlusZero, infinite, number, distance-shape, NotBelowZero, plus, minus-zero, cost-shape, plus-zero-is-distance, distance-is-non-negative}
 use Rattle.binary32.proofs.DistanceOrder.{lt-irreflexive, none-above-infinity}
 use Rattle.binary32.proofs.Rounding.{round-clear, round-monotone}
 
@@ -23,7 +24,7 @@ use Rattle.binary32.proofs.Rounding.{round-clear, round-monotone}
 sum-with-minus-zero : (f : Format) (a c : ℕ) → sum f false a true 0 c ≡ round f false a c
 unfolding sum
 sum-with-minus-zero f a c =
-    ap (λ (b : Bool). cond b (round f true (0 - a) c) (round f false (a - 0) c)) (le→not-ltb 0 a zero-le)
+    ap (λ (b : Bool). cond b (round f true (0 - a) c) (round f false (a - 0) c)) (le-ltb a 0 zero-le)
     ∙ ap (λ (n : ℕ). round f false n c) (sub-zero a)
 
 -- The sum of two numbers, neither of them below 0, is the exact sum rounded.
@@ -77,8 +78,8 @@ no-more a b c h = omega arith
 
 costs-in-order : {w v : Float} → NotBelowZero w → NotBelowZero v → T (finite w) → T (finite v) → lt v w ≡ false → num w * den v ≤ num v * den w
 unfolding lt
-costs-in-order (plus (number n d)) (plus (number p g)) w-finite v-finite h = not-ltb→le (n * up d * down g) (p * up g * down d) h
-costs-in-order (plus (number n d)) (minus-zero g) w-finite v-finite h = no-more (0 * up g * down d) (n * up d * down g) (0 * up g * down d) (not-ltb→le (0 * up g * down d + n * up d * down g) 0 h)
+costs-in-order (plus (number n d)) (plus (number p g)) w-finite v-finite h = ltb-false (p * up g * down d) (n * up d * down g) h
+costs-in-order (plus (number n d)) (minus-zero g) w-finite v-finite h = no-more (0 * up g * down d) (n * up d * down g) (0 * up g * down d) (ltb-false 0 (0 * up g * down d + n * up d * down g) h)
 costs-in-order {v} (minus-zero d) v-shape w-finite v-finite h = le-trans (le-of-eq (ap (λ (n : ℕ). n * den v) (zero-mul (up d)) ∙ zero-mul (den v))) zero-le
 
 numbers-in-order : (f : Format) (m : ℕ) (e : ℤ) (n : ℕ) (d : ℤ) {w v : Float} → NotBelowZero w → NotBelowZero v → T (finite w) → T (finite v)
@@ -89,7 +90,7 @@ numbers-in-order f m e n d {w} {v} w-shape v-shape w-finite v-finite h k =
     let b = n * up d * den v + num v * down d in
     subst₂ (λ (x y : Float). lt y x ≡ false) (sym (cost-sum-rounds f m e w-shape w-finite)) (sym (cost-sum-rounds f n d v-shape v-finite))
     (round-monotone f a (down e * den w) b (down d * den v) (mul-pos (down-pos e) (den-pos w)) (mul-pos (down-pos d) (den-pos v))
-    (sums-in-order (m * up e) (down e) (n * up d) (down d) (num w) (den w) (num v) (den v) (not-ltb→le (m * up e * down d) (n * up d * down e) h) (costs-in-order w-shape v-shape w-finite v-finite k)))
+    (sums-in-order (m * up e) (down e) (n * up d) (down d) (num w) (den w) (num v) (den v) (ltb-false (n * up d * down e) (m * up e * down d) h) (costs-in-order w-shape v-shape w-finite v-finite k)))
 
 all-in-order : (f : Format) {x y w v : Float} → FromPlusZero x → FromPlusZero y → NotBelowZero w → NotBelowZero v → lt y x ≡ false → lt v w ≡ false → lt (add f y v) (add f x w) ≡ false
 unfolding lt

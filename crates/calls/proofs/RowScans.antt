@@ -2,10 +2,11 @@
 use mathlib.Core.Path.{_≡_, ap, _∙_, subst}
 use mathlib.Core.Bool.{Bool, true, false}
 use mathlib.Core.List.{List}
-use Prim.Native.Nat.{ℕ, suc, _+_, _*_, _≤_, _<_}
-use native.Mathlib.Nat.{le-antisymm, mul-le-mul-right, suc-mul, zero-mul, add-zero}
+use Prim.Native.Nat.{ℕ, _+_, _*_, _≤_, _<_}
+use native.Mathlib.Nat.{le-antisymm, suc-mul, zero-mul, add-zero}
 use native.Mathlib.Numerals.{add-one}
 use native.Mathlib.Omega.{arith}
+use lib.Arith.{digits-lt}
 use lib.ListN.{length, getD}
 use Rattle.rules.specs.Sizes.{any, first-index}
 use Rattle.calls.proofs.Scans.{NoneBelow, none-yet, none-more, none-all, one-passes, first-passes}
@@ -13,13 +14,6 @@ use Rattle.calls.proofs.Scans.{NoneBelow, none-yet, none-more, none-all
 -- The row after a row starts where that row ends.
 next-row : (row cols : ℕ) → (row + 1) * cols ≡ row * cols + cols
 next-row row cols = ap (λ (k : ℕ). k * cols) (add-one row) ∙ suc-mul row cols
-
--- The cell at a row and a column is one of the grid.
-index-below : (rows cols row col : ℕ) → row < rows → col < cols → row * cols + col < rows * cols
-index-below rows cols row col in-rows in-cols =
-    let ends : suc row * cols ≤ rows * cols = mul-le-mul-right cols in-rows in
-    let is = suc-mul row cols in
-    omega arith
 
 module _ {A : Type 0} (test : A → Bool) (xs : List A) (rows cols : ℕ) where
   -- Before a row: none of the rows above has a cell that passes.
@@ -43,7 +37,7 @@ module _ {A : Type 0} (test : A → Bool) (xs : List A) (rows cols : ℕ) where
 
   module _ {row col : ℕ} (at : AtColumn row col) where
     pub index-in : col < cols → row * cols + col < length xs
-    index-in below = subst (λ (n : ℕ). row * cols + col < n) (at .area) (index-below rows cols row col (at .in-rows) below)
+    index-in below = subst (λ (n : ℕ). row * cols + col < n) (at .area) (digits-lt (at .in-rows) below)
 
     pub column-fails : (d : A) → col < cols → test (getD xs (row * cols + col) d) ≡ false → AtColumn row (col + 1)
     column-fails d below fails = record {

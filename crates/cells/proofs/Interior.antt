@@ -7,11 +7,12 @@ use native.Mathlib.Nat.{add-zero, suc-mul, div-add-mod', lt-irrefl}
 use native.Mathlib.Numerals.{add-one}
 use native.Mathlib.Omega.{arith}
 use borrow.Author.Tests.{ltb-true}
-use lib.Dec.{T, ltb}
+use lib.Dec.{ltb}
 use lib.IntN.{ℤ, pos, negsuc, natAbs, _+ℤ_}
 use lib.Signed.{mag, ltZ}
 use mir.Syntax.{w32}
 use mir.Val.{SFits, toZ}
+use Rattle.fifo.proofs.Lists.{is-true}
 use Rattle.rules.specs.declared.Size.{Size}
 use Rattle.rules.specs.Sizes.{count}
 use Rattle.rules.specs.Cells.{offsets, index, row-of, col-of, within, neighbour, neighbours}
@@ -134,10 +135,6 @@ back-one n some = go (ltb n 1) refl
 no-step : (n : ℕ) → pos n +ℤ pos 0 ≡ pos n
 no-step n = ap pos (add-zero n)
 
-holds : (b : Bool) → T b → b ≡ true
-holds true t = refl
-holds false t = absurd t
-
 row-above : (row cols : ℕ) → 0 < row → row * cols ≡ (row - 1) * cols + cols
 row-above row cols some = let is : row ≡ suc (row - 1) = omega arith in ap (λ (n : ℕ). n * cols) is ∙ suc-mul (row - 1) cols
 
@@ -166,7 +163,7 @@ module _ (size : Size) (u : ℕ) (interior : Interior size u) where
       → index size r c ≡ v → neighbour size u (down ∷ across ∷ []) ≡ v ∷ []
   unfolding neighbour
   at-place down across {r} {c} row-to col-to r-in c-in v-is =
-      rw (row-to, col-to, holds (within (size .rows) (pos r)) (between r (bounds .rows-side) r-in), holds (within (size .cols) (pos c)) (between c (bounds .cols-side) c-in), v-is)
+      rw (row-to, col-to, is-true (within (size .rows) (pos r)) (between r (bounds .rows-side) r-in), is-true (within (size .cols) (pos c)) (between c (bounds .cols-side) c-in), v-is)
 
   own-row : row < mag (size .rows)
   own-row = let some = interior .below in omega arith

@@ -1,5 +1,5 @@
 -- The laws can be met: every net with whole numbers for labels and steps that stay inside meets them. What the theory then says of two such nets.
-use mathlib.Core.Bool.{Bool, true, false, cond, _&&_}
+use mathlib.Core.Bool.{Bool, true, cond, _&&_}
 use mathlib.Core.List.{List, [], _∷_}
 use mathlib.Core.Logic.{inl, inr}
 use mathlib.Core.Path.{_≡_, ap}
@@ -9,6 +9,7 @@ use native.Mathlib.Omega.{arith}
 use borrow.Author.Tests.{ltb-true, ltb-false, le-ltb}
 use lib.Dec.{T, eqb, ltb, ltb→lt, lt→ltb}
 use lib.ListN.{length, getD}
+use mir.Facts.{and-yes}
 use Rattle.fifo.specs.Machine.{label, finish, takes-of}
 use Rattle.fifo.specs.Walk.{In, Walk}
 use Rattle.fifo.specs.Laws.{Laws}
@@ -26,19 +27,15 @@ abbrev all-inside : ℕ → List (List (ℕ × ℕ)) → Bool
 all-inside n [] = true
 all-inside n (steps ∷ rest) = steps-inside n steps && all-inside n rest
 
-both : (a b : Bool) → T (a && b) → T a × T b
-both true b t = (tt, t)
-both false b t = absurd t
-
 step-below : (n : ℕ) (steps : List (ℕ × ℕ)) → T (steps-inside n steps) → (step : ℕ × ℕ) → In step steps → step .0 < n
 step-below n [] t step i = absurd i
-step-below n (a ∷ steps) t step (inl p) = let r = both (ltb (a .0) n) (steps-inside n steps) t in omega (arith, ltb→lt (a .0) n (r .0), ap (λ q. q .0) p)
-step-below n (a ∷ steps) t step (inr i) = step-below n steps ((both (ltb (a .0) n) (steps-inside n steps) t) .1) step i
+step-below n (a ∷ steps) t step (inl p) = let r = and-yes (ltb (a .0) n) (steps-inside n steps) t in omega (arith, ltb→lt (a .0) n (r .0), ap (λ q. q .0) p)
+step-below n (a ∷ steps) t step (inr i) = step-below n steps ((and-yes (ltb (a .0) n) (steps-inside n steps) t) .1) step i
 
 steps-below : (n : ℕ) (steps : List (List (ℕ × ℕ))) → T (all-inside n steps) → (u : ℕ) (step : ℕ × ℕ) → In step (getD steps u []) → step .0 < n
 steps-below n [] t u step i = absurd i
-steps-below n (a ∷ rest) t zero step i = step-below n a ((both (steps-inside n a) (all-inside n rest) t) .0) step i
-steps-below n (a ∷ rest) t (suc u) step i = steps-below n rest ((both (steps-inside n a) (all-inside n rest) t) .1) u step i
+steps-below n (a ∷ rest) t zero step i = step-below n a ((and-yes (steps-inside n a) (all-inside n rest) t) .0) step i
+steps-below n (a ∷ rest) t (suc u) step i = steps-below n rest ((and-yes (steps-inside n a) (all-inside n rest) t) .1) u step i
 
 module _ (cap : ℕ) (steps : List (List (ℕ × ℕ))) (inside-all : T (all-inside (length steps) steps)) where
   -- A step leads to a cell of the net and adds its cost.

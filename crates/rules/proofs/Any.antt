@@ -1,5 +1,5 @@
 -- Whether one of a list passes a test, and which is the first that does. Assumes nothing.
-use mathlib.Core.Bool.{Bool, true, false, _||_, or-true}
+use mathlib.Core.Bool.{Bool, true, false, _||_, or-true, or-assoc}
 use mathlib.Core.List.{List, [], _∷_, _++_}
 use mathlib.Core.Path.{_≡_, refl, sym, ap, _∙_}
 use Prim.Native.Nat.{ℕ, zero, suc, _+_, _≤_, _<_}
@@ -63,7 +63,3 @@ module _ {A : Type 0} (test : A → Bool) where
   unfolding any
   any-append [] m = refl
   any-append (a ∷ l) m = ap (λ rest. test a || rest) (any-append l m) ∙ sym (or-assoc (test a) (any test l) (any test m))
-    where
-      or-assoc : (a b c : Bool) → ((a || b) || c) ≡ (a || (b || c))
-      or-assoc true b c = refl
-      or-assoc false b c = refl

@@ -7,6 +7,7 @@ use lib.Dec.{T, eqb, eqb-refl}
 use lib.Ieee.{Float, nan, binary32, add, lt, fits, isNan}
 use lib.Ieee.Bits.{is-false}
 use lib.Ieee.Fits.{and-l}
+use mir.Facts.{T-not-not}
 use Rattle.binary32.specs.Numbers.{plus-zero}
 use Rattle.fifo.specs.Machine.{Net, label, finish}
 use Rattle.fifo.specs.Walk.{In, Starting, Walk, here, on}
@@ -20,7 +21,6 @@ use Rattle.rules.specs.Cells.{moves}
 use Rattle.rules.specs.Distances.{float, target, has-data}
 use Rattle.rules.specs.Values.{Carried, carrying, closest, starts-by-time, entered-by-time, closest-by-time}
 use Rattle.rules.specs.Paths.{Path, alone, onward, AllowedBy, FromClosest, HoldsClosest, ClosestTargets-4, ClosestTargets-by-time}
-use Rattle.rules.proofs.Tests.{not-not}
 use Rattle.rules.proofs.Neighbours.{moves-permitted, permitted-moves}
 use Rattle.rules.proofs.AddedCosts.{AddsCosts, laws-of-costs}
 use Rattle.rules.proofs.Inputs.{AcceptedTimes}
@@ -160,4 +160,4 @@ closest-targets-by-time targets times values limit times-good held number =
     capped :
         (c : ℕ) → starts-by-time targets values c ≡ false → T (not (not (has-data values c)))
         → first c (has-data values c) (starts-by-time targets values c) ≡ (limit, plus-zero)
-    capped c rests valued = ap (λ b. first c b (starts-by-time targets values c)) (is-true (has-data values c) (not-not (has-data values c) valued)) ∙ ap (first c true) rests
+    capped c rests valued = ap (λ b. first c b (starts-by-time targets values c)) (is-true (has-data values c) (T-not-not (has-data values c) valued)) ∙ ap (first c true) rests

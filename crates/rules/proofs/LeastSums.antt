@@ -7,6 +7,7 @@ use lib.Dec.{T}
 use lib.Ieee.{Float, nan, binary32, add, lt, fits, isNan}
 use lib.Ieee.Bits.{is-false}
 use lib.Ieee.Fits.{and-l, and-r, and-i}
+use mir.Facts.{T-not-not}
 use Rattle.binary32.specs.Numbers.{plus-zero}
 use Rattle.binary32.specs.Steps.{straight, diagonal}
 use Rattle.fifo.specs.Machine.{Net, label, finish}
@@ -21,7 +22,6 @@ use Rattle.rules.specs.Sizes.{Size, Grid, in-bounds}
 use Rattle.rules.specs.Cells.{moves}
 use Rattle.rules.specs.Distances.{target, target-data, from-targets, plain, free, blocked, with-obstacles, half-sum, both-data, travel}
 use Rattle.rules.specs.Paths.{Path, alone, onward, Allowed-2, AllowedBy, LeastOrCap, HoldsLeastSums, LeastSums-1, LeastSums-2, LeastSums-3}
-use Rattle.rules.proofs.Tests.{not-not}
 use Rattle.rules.proofs.Neighbours.{Permitted, straight-step, diagonal-step, moves-permitted, permitted-moves}
 use Rattle.rules.proofs.AddedCosts.{AddsCosts, laws-of-costs}
 use Rattle.rules.proofs.Inputs.{AcceptedTimes}
@@ -133,7 +133,7 @@ one-test-holds-least-sums net size test cost from cap costs nbrs-are enterable-i
     let steps = steps-of-moves net (AllowedBy size test cost) size (λ u. test) (λ u. test) cost nbrs-are (permitted-by size test cost) (allowed-by size test cost) in
     holds-least-sums costs steps (λ c. not (test c))
     (λ c marked. let fails = is-false (test c) marked in (enterable-is c ∙ fails, first-is c ∙ ap (λ b. cond b (from c) nan) fails))
-    (λ c inside rests unmarked. costs .cap-first c (inside, rw (enterable-is c) (not-not (test c) unmarked)) rests)
+    (λ c inside rests unmarked. costs .cap-first c (inside, rw (enterable-is c) (T-not-not (test c) unmarked)) rests)
 
 -- A step of search 1 adds its length.
 abbrev own-length : ℕ → ℕ → Float → Float

@@ -3,9 +3,8 @@ use mathlib.Core.Bool.{Bool, false, _&&_}
 use mathlib.Core.List.{List, [], _∷_, map}
 use mathlib.Core.Logic.{_⊎_, inl, inr, ⊎-elim}
 use mathlib.Core.Path.{_≡_, sym, ap, _∙_, subst}
-use Prim.Native.Nat.{ℕ, _+_, _*_, _<_}
-use native.Mathlib.Nat.{mul-le-mul-right, suc-mul}
-use native.Mathlib.Omega.{arith}
+use Prim.Native.Nat.{ℕ, _<_}
+use lib.Arith.{digits-lt}
 use lib.IntN.{ℤ, pos, negsuc, _+ℤ_}
 use lib.ListN.{getD, take, drop}
 use lib.Dec.{T, leb, ltb, ltb→lt}
@@ -27,14 +26,11 @@ within-below (pos b) (negsuc a) t = absurd t
 within-below (negsuc b) (pos a) t = absurd (and-r (leb 0 a) false t)
 within-below (negsuc b) (negsuc a) t = absurd t
 
-index-below : (row col rows cols : ℕ) → row < rows → col < cols → row * cols + col < rows * cols
-index-below row col rows cols r c = omega (arith, mul-le-mul-right cols r, suc-mul row cols)
-
 cell-below : (size : Size) (row col : ℤ) → T (within (size .rows) row && within (size .cols) col) → index size (mag row) (mag col) < count size
 cell-below size row col t =
     let row-within = within-below (size .rows) row (and-l (within (size .rows) row) (within (size .cols) col) t) in
     let col-within = within-below (size .cols) col (and-r (within (size .rows) row) (within (size .cols) col) t) in
-    index-below (mag row) (mag col) (mag (size .rows)) (mag (size .cols)) row-within col-within
+    digits-lt row-within col-within
 
 pub neighbour-inside : (size : Size) (u : ℕ) (offset : List ℤ) (v : ℕ) → In v (neighbour size u offset) → v < count size
 unfolding neighbour

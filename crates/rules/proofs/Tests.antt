@@ -2,7 +2,6 @@
 use mathlib.Core.Bool.{Bool, true, false, not, _&&_, _||_, false≢true}
 use mathlib.Core.Path.{_≡_, refl, sym, ap, _∙_}
 use borrow.Author.Tests.{not-true, not-false}
-use lib.Dec.{T}
 
 -- ---- both, and either
 
@@ -33,10 +32,6 @@ or-yes false b first = absurd (false≢true first)
 pub neither : (a b : Bool) → (a || b) ≡ false → (a ≡ false) × (b ≡ false)
 neither true b none = absurd (false≢true (sym none))
 neither false b none = (refl, none)
-
-pub not-not : (b : Bool) → T (not (not b)) → T b
-not-not true t = tt
-not-not false t = absurd t
 
 -- ---- what an answer says of what it stands for
 

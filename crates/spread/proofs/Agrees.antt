@@ -10,6 +10,7 @@ use mathlib.Core.List.{List, [], _∷_, map, map-id}
 use mathlib.Core.Logic.{_⊎_, inl, inr, ⊎-elim}
 use mathlib.Core.Path.{_≡_, refl, sym, ap, _∙_}
 use Prim.Native.Nat.{ℕ}
+use borrow.Author.Tests.{not-false}
 use lib.Ieee.{Float, nan, binary32, add, mul, div, lt}
 use Rattle.binary32.specs.Nodata.{nodata}
 use Rattle.binary32.specs.Numbers.{two}
@@ -86,11 +87,7 @@ stepping-simulates net steps below each = record {
 -- A nodata time gives NaN for a candidate, by both formulas, and NaN is below nothing.
 module _ (times : Grid Float) (v : ℕ) (none : has-data times v ≡ false) where
   time-is-nan : float times v ≡ nan
-  time-is-nan = isNan→nan (float times v) (is-nodata (nodata (float times v)) none)
-    where
-      is-nodata : (b : Bool) → not b ≡ false → b ≡ true
-      is-nodata true e = refl
-      is-nodata false e = absurd (true≢false e)
+  time-is-nan = isNan→nan (float times v) (not-false (nodata (float times v)) none)
 
   time-never-below : (s : Float) (x y : Carried) → nearer (carrying (plus-time times) s v x) y ≡ false
   time-never-below s x y =
