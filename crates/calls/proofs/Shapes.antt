@@ -3,15 +3,14 @@ use mathlib.Core.Path.{_≡_, sym, ap, _∙_}
 use mathlib.Core.Bool.{Bool, false}
 use mathlib.Core.List.{List, [], _∷_, _++_}
 use Prim.Native.Nat.{ℕ, suc}
-use native.Mathlib.Nat.{le-antisymm}
 use borrow.Author.Tests.{not-false, eqb-true}
-use mir.Facts.{and-yes}
-use lib.Dec.{T, leb, eqb, leb→le}
-use lib.IntN.{ℤ, pos, negsuc}
+use lib.Dec.{T, eqb}
+use lib.IntN.{ℤ}
 use Rattle.rules.specs.declared.Size.{Size}
 use Rattle.rules.specs.Sizes.{Refusal, passes, Lent, any, shape, in-bounds, same-number, same-size, count, differs, other-than}
 use Rattle.fifo.proofs.Lists.{holds}
-use Rattle.rules.proofs.Tests.{neither}
+use Rattle.rules.proofs.Tests.{and-both, neither}
+use Rattle.cells.proofs.Bounds.{same-number-is}
 use Rattle.calls.proofs.Judgements.{Comes, passed}
 
 -- Each of a list is a.
@@ -32,15 +31,9 @@ unfolding any
 all-are test is [] none = tt
 all-are test is (b ∷ xs) none = let parts = neither (test b) (any test xs) none in (is b (parts .0), all-are test is xs (parts .1))
 
-same-number-is : (k l : ℤ) → T (same-number k l) → k ≡ l
-same-number-is (pos a) (pos b) e = let both = and-yes (leb a b) (leb b a) e in ap pos (le-antisymm (leb→le a b (both .0)) (leb→le b a (both .1)))
-same-number-is (pos a) (negsuc b) e = absurd e
-same-number-is (negsuc a) (pos b) e = absurd e
-same-number-is (negsuc a) (negsuc b) e = let both = and-yes (leb b a) (leb a b) e in ap negsuc (le-antisymm (leb→le a b (both .1)) (leb→le b a (both .0)))
-
 same-size-is : (a b : Size) → differs a b ≡ false → b ≡ a
 same-size-is a b e =
-    let both = and-yes (same-number (a .rows) (b .rows)) (same-number (a .cols) (b .cols)) (holds (not-false (same-size a b) e)) in
+    let both = and-both (same-number (a .rows) (b .rows)) (same-number (a .cols) (b .cols)) (not-false (same-size a b) e) in
     sym (ap (λ (k : ℤ). record { rows = k; cols = a .cols }) (same-number-is (a .rows) (b .rows) (both .0)) ∙ ap (λ (k : ℤ). record { rows = b .rows; cols = k }) (same-number-is (a .cols) (b .cols) (both .1)))
 
 -- A call that passes the tests has its shape.

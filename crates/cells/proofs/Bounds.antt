@@ -127,11 +127,12 @@ module _ (size : Size) (within : Bounded size) where
 abbrev pub bits-equal : ℤ → ℤ → Bool
 bits-equal k l = eqb (ofZ w32 k) (ofZ w32 l)
 
-same-is : (k l : ℤ) → same-number k l ≡ true → k ≡ l
-same-is (pos a) (pos b) e = let both = and-yes (leb a b) (leb b a) (holds e) in ap pos (le-antisymm (leb→le a b (both .0)) (leb→le b a (both .1)))
-same-is (pos a) (negsuc b) e = absurd (false≢true e)
-same-is (negsuc a) (pos b) e = absurd (false≢true e)
-same-is (negsuc a) (negsuc b) e = let both = and-yes (leb b a) (leb a b) (holds e) in ap negsuc (le-antisymm (leb→le a b (both .1)) (leb→le b a (both .0)))
+-- Where neither of two signed numbers is above the other they are one.
+pub same-number-is : (k l : ℤ) → same-number k l ≡ true → k ≡ l
+same-number-is (pos a) (pos b) e = let both = and-yes (leb a b) (leb b a) (holds e) in ap pos (le-antisymm (leb→le a b (both .0)) (leb→le b a (both .1)))
+same-number-is (pos a) (negsuc b) e = absurd (false≢true e)
+same-number-is (negsuc a) (pos b) e = absurd (false≢true e)
+same-number-is (negsuc a) (negsuc b) e = let both = and-yes (leb b a) (leb a b) (holds e) in ap negsuc (le-antisymm (leb→le a b (both .1)) (leb→le b a (both .0)))
 
 same-self : (k : ℤ) → same-number k k ≡ true
 same-self (pos a) = rw (le-leb a a (le-refl a))
@@ -148,7 +149,7 @@ same-bits k l k-fits l-fits = go (bits-equal k l) (same-number k l) refl refl
     go true false bits number =
         let one = sym (toZ-ofZ k-fits) ∙ ap (toZ w32) (eqb-true (ofZ w32 k) (ofZ w32 l) bits) ∙ toZ-ofZ l-fits in
         sym (subst (λ (m : ℤ). same-number k m ≡ true) one (same-self k)) ∙ number
-    go false true bits number = absurd (eqb-false (ofZ w32 k) (ofZ w32 l) bits (ap (ofZ w32) (same-is k l number)))
+    go false true bits number = absurd (eqb-false (ofZ w32 k) (ofZ w32 l) bits (ap (ofZ w32) (same-number-is k l number)))
 
 module _ (a b : Size) (rows-bits : bits-equal (a .rows) (b .rows) ≡ same-number (a .rows) (b .rows)) where
   pub rows-differ : bits-equal (a .rows) (b .rows) ≡ false → bits-equal (a .rows) (b .rows) ≡ same-size a b
