@@ -6,9 +6,10 @@ use Prim.Native.Nat.{ℕ, _*_, _≤_, _<_}
 use native.Mathlib.Nat.{le-refl, le-of-eq, le-of-lt}
 use borrow.Author.Tests.{ltb-false, le-ltb}
 use lib.Dec.{T, ltb, eqb, ltb→lt, eqb→eq}
-use lib.Ieee.{Float, nan, inf, fin, binary32, up, down, lt, le, fits, isNan}
+use lib.Ieee.{Float, nan, inf, fin, binary32, up, down, lt, le, fits, isNan, ofBits, eq}
 use lib.Ieee.Fits.{down-pos}
 use lib.Ieee.Positive.{through}
+use lib.Ieee.Scale.{finite}
 use Rattle.binary32.specs.Numbers.{plus-zero}
 use Rattle.binary32.specs.FromZero.{sign-clear, Distance}
 use Rattle.binary32.proofs.Shapes.{FromPlusZero, infinite, number, distance-shape, distance-is-non-negative}
@@ -65,6 +66,14 @@ none-above-infinity nan = refl
 none-above-infinity (inf s) = refl
 none-above-infinity (fin s m e) = refl
 
+-- A value above +0 is finite exactly where it is below +infinity.
+pub finite-below-infinity : (x : Float) → lt plus-zero x ≡ true → finite x ≡ lt x (inf false)
+unfolding lt ofBits
+finite-below-infinity nan above = absurd (false≢true above)
+finite-below-infinity (inf true) above = absurd (false≢true above)
+finite-below-infinity (inf false) above = refl
+finite-below-infinity (fin s m e) above = refl
+
 none-below-minus : {x : Float} (c : Float) → T (not (isNan c)) → T (not (sign-clear c)) → FromPlusZero x → lt x c ≡ false
 unfolding lt isNan
 none-below-minus (inf true) c-number minus infinite = refl
@@ -97,3 +106,12 @@ le→not-lt infinite infinite h = refl
 le→not-lt infinite (number n d) h = absurd h
 le→not-lt (number m e) infinite h = refl
 le→not-lt (number m e) (number n d) h = le-ltb (n * up d * down e) (m * up e * down d) (test→le (m * up e * down d) (n * up d * down e) h)
+
+-- What is not at most y is not below y, whatever the two are.
+pub not-le-not-lt : (x y : Float) → le x y ≡ false → lt x y ≡ false
+unfolding le
+not-le-not-lt x y = go (lt x y) (eq x y)
+  where
+    go : (below level : Bool) → (below || level) ≡ false → below ≡ false
+    go true level neither = neither
+    go false level neither = refl

@@ -25,6 +25,11 @@ isNan→nan nan h = refl
 isNan→nan (inf s) h = absurd (false≢true h)
 isNan→nan (fin s m e) h = absurd (false≢true h)
 
+-- +infinity is none.
+pub infinity-not-nan : isNan (inf false) ≡ false
+unfolding isNan
+infinity-not-nan = refl
+
 -- Nothing is below a NaN.
 pub none-below-nan : (x : Float) → lt x nan ≡ false
 unfolding lt

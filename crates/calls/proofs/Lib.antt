@@ -1,7 +1,6 @@
 -- The laws of this crate, for its own proofs and for those of the crates above it.
 pub mod Turns
 pub mod Scans
-pub mod NumberTests
 pub mod RowScans
 pub mod Judgements
 pub mod Lengths

@@ -7,6 +7,7 @@ use native.Mathlib.Omega.{arith}
 use lib.Dec.{T}
 use lib.Ieee.{Float, nan, binary32, fits}
 use lib.ListN.{length, getD}
+use lib.Ieee.Fits.{inf-fits}
 use Rattle.fifo.specs.Machine.{Net, finish, takes-of}
 use Rattle.fifo.specs.Laws.{Laws, room}
 use Rattle.fifo.proofs.Search.{read-length, read-at}
@@ -17,7 +18,7 @@ use Rattle.rules.specs.Numbers.{infinity}
 use Rattle.rules.specs.Sizes.{grid, Judged, count}
 use Rattle.rules.specs.Distances.{scaled, target, target-data, plain, free, with-obstacles, both-data, travel, refusals-1, refusals-2, refusals-3, outcome-1, outcome-2, outcome-3}
 use Rattle.rules.specs.Paths.{HoldsLeastSums}
-use Rattle.rules.proofs.Inputs.{AcceptedTimes, infinity-fits}
+use Rattle.rules.proofs.Inputs.{AcceptedTimes}
 use Rattle.rules.proofs.Accepted.{accepted-1, accepted-2, accepted-3}
 use Rattle.rules.proofs.Nets.{plain-laws, obstacles-laws, travel-laws}
 use Rattle.rules.proofs.LeastSums.{least-sums-1, least-sums-2, least-sums-3}
@@ -62,7 +63,7 @@ pub demand-3-uncapped :
     → Distance size targets cell-size answer marks queue r → told r ≡ takes t
     → Demand-3-plain (grid size targets) (record { «cell_size» = cell-size; limit = infinity }) (answer .after) t
 demand-3-uncapped size targets cell-size answer marks queue r t promise said =
-    demand-3-plain size targets (record { «cell_size» = cell-size; limit = infinity }) answer marks queue r t infinity-fits promise said
+    demand-3-plain size targets (record { «cell_size» = cell-size; limit = infinity }) answer marks queue r t (inf-fits binary32 false) promise said
 
 pub demand-3-obstacles :
     (size : Size) (targets : List ℕ) (obstacles-size : Size) (obstacles : List ℕ) (spacing : Spacing) (diagonals : BarrierDiagonals) (answer : Slice Float) (marks queue : Slice ℕ)
@@ -98,4 +99,4 @@ pub demand-3-travel-uncapped :
     → ((c : ℕ) → T (fits binary32 (getD times c nan))) → TravelDistance size targets times-size times answer marks queue r → told r ≡ takes t
     → Demand-3-travel (grid size targets) (grid times-size times) infinity (answer .after) t
 demand-3-travel-uncapped size targets times-size times answer marks queue r t times-held promise said =
-    demand-3-travel size targets times-size times infinity answer marks queue r t times-held infinity-fits promise said
+    demand-3-travel size targets times-size times infinity answer marks queue r t times-held (inf-fits binary32 false) promise said

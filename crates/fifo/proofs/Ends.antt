@@ -10,9 +10,9 @@ use lib.ListN.{length, length-append}
 use Rattle.fifo.specs.Machine.{Net, State, passing, initial, label, take, run, takes, finish, takes-of}
 use Rattle.fifo.specs.Walk.{In}
 use Rattle.fifo.specs.Laws.{room, Enterable, Laws, Sound}
-use Rattle.fifo.proofs.Lists.{tested, true-or-false, same-or-not, in-back, joined-cases, without, length-without, in-without, no-dup-no-longer, in-passing}
+use Rattle.fifo.proofs.Lists.{tested, true-or-false, same-or-not, in-back, joined-cases, without, length-without, in-without, no-dup-no-longer, in-passing, empty-or-not}
 use Rattle.fifo.proofs.Induction.{awaiting, label-awaiting, label-unstored, after-store, waiting-store, Kept, take-keeps, take-appends, run-keeps, run-zero, run-head, takes-stopped}
-use Rattle.fifo.proofs.Runs.{empty-or-not, takes-add, takes-at-most, stops-by, run-past}
+use Rattle.fifo.proofs.Runs.{takes-add, takes-at-most, stops-by, run-past}
 use Rattle.fifo.proofs.Order.{not-below-itself}
 use Rattle.fifo.proofs.Sound.{room-at-most-cells, head-in, rest-in, head-once, head-good, head-step, candidate-good, candidate-inside, sound-awaiting, stored-inside, sound-kept, sound-take, sound-initial}
 

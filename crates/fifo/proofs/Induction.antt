@@ -4,21 +4,15 @@ use mathlib.Core.List.{List, [], _∷_, _++_, append-nil, append-assoc}
 use mathlib.Core.Logic.{_⊎_, inl, inr, ⊎-elim}
 use mathlib.Core.Path.{_≡_, refl, sym, ap, _∙_, subst}
 use Prim.Native.Nat.{ℕ, zero, suc, _<_}
-use native.Mathlib.Omega.{arith}
 use lib.ListN.{length, getD, set, length-set}
 use lib.Seq.{getD-set-same, getD-set-other}
 use Rattle.fifo.specs.Machine.{Net, State, joined, label, store, relax, scan, take, run-from, run, takes-from, takes, trace-from, trace}
 use Rattle.fifo.specs.Walk.{In}
-use Rattle.fifo.proofs.Lists.{by-test, same-or-not, joined-appends}
+use Rattle.fifo.proofs.Lists.{by-test, same-or-not, joined-appends, getD-any}
 
 -- The state with ws waiting.
 abbrev pub awaiting : {L : Type 0} → List ℕ → State L → State L
 awaiting ws s = record { labels = s .labels; waiting = ws; entered = s .entered }
-
-pub getD-any : {A : Type 0} (l : List A) (i : ℕ) (x y : A) → i < length l → getD l i x ≡ getD l i y
-getD-any [] i x y inside = absurd (omega arith)
-getD-any (a ∷ l) zero x y inside = refl
-getD-any (a ∷ l) (suc i) x y inside = getD-any l i x y (omega arith)
 
 module _ {L : Type 0} (net : Net L) where
   -- A label after a store.

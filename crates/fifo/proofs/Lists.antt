@@ -1,4 +1,4 @@
--- Lists of cells: membership, no duplicates, a cell that joins, a cell that is removed, the values and the passing cells of a range.
+-- Lists, and lists of cells: membership, no duplicates, a cell that joins, a cell that is removed, the values and the passing cells of a range.
 use mathlib.Core.Bool.{Bool, true, false, cond, _||_, or-true}
 use mathlib.Core.List.{List, [], _∷_, _++_, map, append-nil}
 use mathlib.Core.Logic.{_⊎_, inl, inr, ⊎-elim}
@@ -9,7 +9,7 @@ use native.Mathlib.Nat.{zero-add, add-zero, add-suc, suc-add}
 use native.Mathlib.Omega.{arith}
 use borrow.Author.Tests.{eqb-true, eq-eqb, ne-eqb}
 use lib.Dec.{T, eqb}
-use lib.ListN.{length, getD}
+use lib.ListN.{length, getD, set}
 use Rattle.fifo.specs.Machine.{among, joined, table, passing}
 use Rattle.fifo.specs.Walk.{In, NoDup}
 
@@ -36,6 +36,26 @@ true-or-false p q = subst T (sym p ∙ q) tt
 -- A cell is another or not.
 pub same-or-not : (a b : ℕ) → (a ≡ b) ⊎ (a ≡ b → ⊥)
 same-or-not a b = elim (ℕ-discrete a b) [ yes p ↦ inl p | no n ↦ inr n ]
+
+-- Nothing stands in the list, or it has a head.
+pub empty-or-not {ℓ} : {A : Type ℓ} (l : List A) → (l ≡ []) ⊎ ((a : A) × (rest : List A) × (l ≡ a ∷ rest))
+empty-or-not [] = inl refl
+empty-or-not (a ∷ rest) = inr (a, rest, refl)
+
+pub no-head {ℓ} : {A : Type ℓ} {l : List A} {a : A} {rest : List A} → l ≡ a ∷ rest → l ≡ [] → ⊥
+no-head e z = let bad : _≡_ {A = ℕ} 0 1 = cc in omega arith
+
+-- Inside a list the value that it is read with outside does not matter.
+pub getD-any : {A : Type 0} (l : List A) (i : ℕ) (x y : A) → i < length l → getD l i x ≡ getD l i y
+getD-any [] i x y inside = absurd (omega arith)
+getD-any (a ∷ l) zero x y inside = refl
+getD-any (a ∷ l) (suc i) x y inside = getD-any l i x y (omega arith)
+
+-- A function over a list with one value set.
+pub map-set : {A B : Type 0} (g : A → B) (l : List A) (i : ℕ) (x : A) → map g (set l i x) ≡ set (map g l) i (g x)
+map-set g [] i x = refl
+map-set g (a ∷ l) zero x = refl
+map-set g (a ∷ l) (suc i) x = ap (λ m. g a ∷ m) (map-set g l i x)
 
 -- `among` decides membership.
 pub among-in : (v : ℕ) (ws : List ℕ) → among v ws ≡ true → In v ws
@@ -86,6 +106,11 @@ pub in-map : {A B : Type 0} (g : A → B) (b : B) (l : List A) → In b (map g l
 in-map g b [] i = absurd i
 in-map g b (a ∷ l) (inl p) = (a, inl refl, p)
 in-map g b (a ∷ l) (inr i) = let r = in-map g b l i in (r .0, inr (r .1), r .2)
+
+pub in-mapped : {A B : Type 0} (g : A → B) (a : A) (l : List A) → In a l → In (g a) (map g l)
+in-mapped g a [] i = absurd i
+in-mapped g a (b ∷ l) (inl p) = inl (ap g p)
+in-mapped g a (b ∷ l) (inr i) = inr (in-mapped g a l i)
 
 -- What `among` says of another cell than the first or the last, and of the last.
 pub among-other : (c v : ℕ) (l : List ℕ) → (c ≡ v → ⊥) → among c (l ++ v ∷ []) ≡ among c l

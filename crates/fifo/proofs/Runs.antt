@@ -1,21 +1,14 @@
 -- Counting takes: a run cut in two, one take more, and that a run which stops is determined. These hold of every net.
 use mathlib.Core.List.{List, [], _∷_, _++_, append-nil}
 use mathlib.Core.Logic.{_⊎_, inl, inr, ⊎-elim}
-use mathlib.Core.Path.{_≡_, refl, ap, _∙_}
+use mathlib.Core.Path.{_≡_, ap, _∙_}
 use Prim.Native.Nat.{ℕ, suc, _+_, _-_, _≤_}
 use native.Mathlib.Nat.{zero-add, suc-add}
 use native.Mathlib.Omega.{arith}
 use lib.ListN.{length}
 use Rattle.fifo.specs.Machine.{Net, State, label, take, run, takes, trace}
+use Rattle.fifo.proofs.Lists.{empty-or-not, no-head}
 use Rattle.fifo.proofs.Induction.{by-takes, run-zero, takes-zero, trace-zero, run-stopped, takes-stopped, trace-stopped, run-head, takes-head, trace-head}
-
--- Nothing stands in the list, or it has a head.
-pub empty-or-not {ℓ} : {A : Type ℓ} (l : List A) → (l ≡ []) ⊎ ((a : A) × (rest : List A) × (l ≡ a ∷ rest))
-empty-or-not [] = inl refl
-empty-or-not (a ∷ rest) = inr (a, rest, refl)
-
-pub no-head {ℓ} : {A : Type ℓ} {l : List A} {a : A} {rest : List A} → l ≡ a ∷ rest → l ≡ [] → ⊥
-no-head e z = let bad : _≡_ {A = ℕ} 0 1 = cc in omega arith
 
 module _ {L : Type 0} (net : Net L) where
   -- A run of n + k takes is a run of n takes and then one of k.

@@ -1,13 +1,14 @@
 -- What holds of a search from its start after every count of takes.
 use mathlib.Core.Bool.{false}
-use mathlib.Core.List.{List, [], _∷_, map}
-use mathlib.Core.Path.{_≡_, refl, _∙_}
-use Prim.Native.Nat.{ℕ, zero, suc, _*_, _<_}
+use mathlib.Core.List.{map}
+use mathlib.Core.Path.{_≡_, _∙_}
+use Prim.Native.Nat.{ℕ, _*_, _<_}
 use native.Mathlib.Omega.{arith}
-use lib.ListN.{length, getD, length-map}
+use lib.ListN.{length, getD, length-map, List·getD-map}
 use Rattle.fifo.specs.Machine.{Net, initial, label, run, finish}
 use Rattle.fifo.specs.Walk.{NoDup}
 use Rattle.fifo.specs.Laws.{Laws, Sound}
+use Rattle.fifo.proofs.Lists.{getD-any}
 use Rattle.fifo.proofs.Sound.{label-initial, sound-run, sound-initial, closed-kept}
 
 module _ {L : Type 0} {net : Net L} (laws : Laws net) (k : ℕ) where
@@ -25,12 +26,6 @@ module _ {L : Type 0} {net : Net L} (laws : Laws net) (k : ℕ) where
   pub closed-first : (c : ℕ) → net .enterable c ≡ false → label net (run net k (initial net)) c ≡ net .first c
   closed-first c closed = closed-kept laws c closed k (initial net) (sound-initial laws) ∙ label-initial net c
 
--- A function over a list, at an index inside it, whatever the value outside.
-getD-map-inside : {A B : Type 0} (f : A → B) (l : List A) (c : ℕ) (d : A) (e : B) → c < length l → getD (map f l) c e ≡ f (getD l c d)
-getD-map-inside f [] c d e inside = absurd (omega arith)
-getD-map-inside f (x ∷ xs) zero d e inside = refl
-getD-map-inside f (x ∷ xs) (suc c) d e inside = getD-map-inside f xs c d e (omega arith)
-
 -- What is read off the labels where the search ends: there is one for each cell, and that of a cell is read off the cell's label.
 module _ {L M : Type 0} {net : Net L} (laws : Laws net) (read : L → M) where
   finish-length : length (finish net .labels) ≡ net .cells
@@ -42,4 +37,6 @@ module _ {L M : Type 0} {net : Net L} (laws : Laws net) (read : L → M) where
 
   pub read-at : (other : M) (c : ℕ) → c < net .cells → getD (map read (finish net .labels)) c other ≡ read (label net (finish net) c)
   unfolding label
-  read-at other c inside = getD-map-inside read (finish net .labels) c (net .first c) other (omega (arith, finish-length))
+  read-at other c inside =
+      getD-any (map read (finish net .labels)) c other (read (net .first c)) (omega (arith, read-length))
+      ∙ List·getD-map read (finish net .labels) c (net .first c)

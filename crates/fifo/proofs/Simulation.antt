@@ -1,22 +1,17 @@
 -- A net that simulates another runs as a copy of it: what it tries beyond the other's steps stores nothing.
 use mathlib.Core.Bool.{Bool, false}
-use mathlib.Core.List.{List, [], _∷_, _++_, map}
+use mathlib.Core.List.{List, _∷_, _++_, map}
 use mathlib.Core.Logic.{_⊎_, inl, inr}
 use mathlib.Core.Path.{_≡_, refl, sym, ap, _∙_, subst}
 use Prim.Native.Nat.{ℕ, zero, suc, _*_}
-use lib.ListN.{set, List·getD-map}
+use lib.ListN.{List·getD-map}
 use Rattle.fifo.specs.Machine.{Net, State, table, passing, initial, label, store, relax, scan, take, run, takes, trace, finish, takes-of}
 use Rattle.fifo.specs.Simulation.{image, Idle, never-below, shut, Steps, done, kept, idle, Simulates, Agrees, Within}
-use Rattle.fifo.proofs.Lists.{true-or-false, same-or-not}
+use Rattle.fifo.proofs.Lists.{true-or-false, same-or-not, map-set}
 use Rattle.fifo.proofs.Induction.{awaiting, label-awaiting, label-unstored, relax-stores, relax-leaves, relax-cases, Kept, relax-keeps, take-keeps, run-zero, takes-zero, trace-zero, run-stopped, takes-stopped, trace-stopped, run-head, takes-head, trace-head, by-takes}
 use Rattle.fifo.proofs.Sound.{label-initial}
 
--- A function over a list with one value set, over a table, and two tests that pass the same numbers.
-pub map-set : {A B : Type 0} (g : A → B) (l : List A) (i : ℕ) (x : A) → map g (set l i x) ≡ set (map g l) i (g x)
-map-set g [] i x = refl
-map-set g (a ∷ l) zero x = refl
-map-set g (a ∷ l) (suc i) x = ap (λ m. g a ∷ m) (map-set g l i x)
-
+-- A function over a table, and two tests that pass the same numbers.
 pub map-table : {A B : Type 0} (g : A → B) (f : ℕ → A) (h : ℕ → B) → ((c : ℕ) → g (f c) ≡ h c) → (i k : ℕ) → map g (table f i k) ≡ table h i k
 unfolding table
 map-table g f h same i zero = refl

@@ -1,24 +1,25 @@
 -- What an accepted call knows of its inputs: their values are those of binary32, and the tests for refusals found nothing. Assumes nothing.
 use mathlib.Core.Bool.{false, _&&_}
-use mathlib.Core.Path.{_≡_, refl}
+use mathlib.Core.Path.{_≡_}
 use Prim.Native.Nat.{ℕ, _≤_}
 use lib.Dec.{T, leb, leb→le}
-use lib.Ieee.{Float, nan, binary32, add, div, lt, le, eq, fits, isNan, ofBits, ofInt}
+use lib.Ieee.{Float, nan, binary32, add, div, le, fits, isNan, ofBits, ofInt}
 use lib.Ieee.Bits.{is-false}
 use lib.Ieee.Fits.{and-r, div-fits}
 use lib.Ieee.Positive.{positive}
 use Rattle.binary32.specs.Numbers.{plus-zero, one}
 use Rattle.binary32.specs.FromZero.{Distance, NonNegative}
-use Rattle.binary32.proofs.Shapes.{infinity-is-distance, distance-is-non-negative, positive-is-non-negative}
+use Rattle.binary32.proofs.NotANumber.{nan-below-none}
+use Rattle.binary32.proofs.Shapes.{positive-is-non-negative}
+use Rattle.binary32.proofs.DistanceOrder.{not-le-not-lt}
 use Rattle.binary32.proofs.Rounding.{round-is-distance}
 use Rattle.binary32.proofs.Costs.{sum-non-negative}
 use Rattle.binary32.proofs.StepCosts.{straight-non-negative}
 use Rattle.fifo.proofs.Lists.{by-test, holds}
-use Rattle.rules.specs.Numbers.{infinity, whole, quarter-of-largest}
+use Rattle.rules.specs.Numbers.{whole, quarter-of-largest}
 use Rattle.rules.specs.Sizes.{Size, Grid, side-fits, in-bounds, any, below-zero, count}
 use Rattle.rules.specs.Distances.{float, has-data}
 use Rattle.rules.specs.Sums.{time-or-quarter}
-use Rattle.rules.proofs.Tests.{neither}
 use Rattle.rules.proofs.Any.{none-passes}
 
 -- ---- sizes
@@ -37,13 +38,6 @@ pub whole-is-distance : (k : ℕ) → Distance (whole k)
 unfolding ofInt
 whole-is-distance k = round-is-distance k 1
 
--- A search without a limit has infinity as its cap.
-pub infinity-fits : T (fits binary32 infinity)
-infinity-fits = infinity-is-distance .held
-
-pub infinity-not-nan : isNan infinity ≡ false
-infinity-not-nan = distance-is-non-negative infinity-is-distance .not-nan
-
 -- ---- times
 
 -- Every time is a value of binary32, a NaN where there is no data, and the test of refusal 6 found none below 0.
@@ -51,16 +45,12 @@ pub record AcceptedTimes (times : Grid Float) : Type 0 where
   pub held : (c : ℕ) → T (fits binary32 (float times c))
   pub none-negative : any below-zero (times .cells) ≡ false
 
-nan-not-below : lt nan plus-zero ≡ false
-unfolding lt
-nan-not-below = refl
-
 -- So a time with data is a cost.
 pub time-non-negative : {times : Grid Float} → AcceptedTimes times → (c : ℕ) → T (has-data times c) → NonNegative (float times c)
 time-non-negative {times} accepted c has = record {
   held = accepted .held c;
   not-nan = is-false (isNan (float times c)) has;
-  not-below = none-passes below-zero nan nan-not-below (times .cells) (accepted .none-negative) c;
+  not-below = none-passes below-zero nan (nan-below-none plus-zero) (times .cells) (accepted .none-negative) c;
 }
 
 quarter-positive : T (positive quarter-of-largest)
@@ -80,10 +70,6 @@ pub record AcceptedBudget (budget : Float) : Type 0 where
   pub held : T (fits binary32 budget)
   pub not-nan : isNan budget ≡ false
   pub above-zero : le budget plus-zero ≡ false
-
-not-le-not-lt : (x y : Float) → le x y ≡ false → lt x y ≡ false
-unfolding le
-not-le-not-lt x y e = (neither (lt x y) (eq x y) e) .0
 
 -- The sum of a budget and 1 is a cost.
 pub budget-and-one-non-negative : {budget : Float} → AcceptedBudget budget → NonNegative (add binary32 budget one)

@@ -14,7 +14,7 @@ use lib.Ieee.Bits.{is-true}
 use lib.Ieee.Fits.{and-l, and-r}
 use Rattle.binary32.specs.Steps.{straight, diagonal}
 use Rattle.fifo.specs.Walk.{In}
-use Rattle.fifo.proofs.Lists.{by-test, holds, true-or-false, in-front, in-back, in-either, in-map}
+use Rattle.fifo.proofs.Lists.{by-test, holds, true-or-false, in-front, in-back, in-either, in-map, in-mapped}
 use Rattle.rules.specs.Sizes.{Size, count}
 use Rattle.rules.specs.Cells.{offsets, index, row-of, col-of, within, neighbour, neighbours, straight-neighbours, diagonal-neighbours, keep, over, moves}
 
@@ -69,11 +69,6 @@ in-kept test v (w ∷ vs) i t =
 pub data Permitted (size : Size) (may-straight may-diagonal : ℕ → Bool) (u v : ℕ) : Float → Type 0 where
   straight-step : T (may-straight v) → In v (straight-neighbours size u) → Permitted size may-straight may-diagonal u v straight
   diagonal-step : T (may-diagonal v) → In v (diagonal-neighbours size u) → Permitted size may-straight may-diagonal u v diagonal
-
-in-mapped : {A B : Type 0} (g : A → B) (a : A) (l : List A) → In a l → In (g a) (map g l)
-in-mapped g a [] i = absurd i
-in-mapped g a (b ∷ l) (inl p) = inl (ap g p)
-in-mapped g a (b ∷ l) (inr i) = inr (in-mapped g a l i)
 
 module _ {L : Type 0} (entering : Float → ℕ → L → L) (s : Float) (test : ℕ → Bool) (v : ℕ) (vs : List ℕ) where
   over-kept : (f : L → L) → In (v, f) (map (over s entering) (keep test vs)) → T (test v) × In v vs × (f ≡ entering s v)

@@ -8,8 +8,7 @@ use native.Mathlib.Omega.{arith}
 use lib.Dec.{T}
 use lib.Ieee.{Float}
 use Rattle.fifo.specs.Machine.{Net, passing, takes-of}
-use Rattle.fifo.proofs.Lists.{passing-in}
-use Rattle.fifo.proofs.Runs.{empty-or-not}
+use Rattle.fifo.proofs.Lists.{passing-in, empty-or-not}
 use Rattle.rules.specs.declared.BarrierDiagonals.{BarrierDiagonals}
 use Rattle.rules.specs.Sizes.{Grid, count}
 use Rattle.rules.specs.Distances.{target, both-data, plain, with-obstacles, travel}

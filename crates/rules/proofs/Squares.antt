@@ -10,9 +10,8 @@ use lib.Ieee.Fits.{and-l, and-r}
 use Rattle.fifo.specs.Machine.{Net, passing, initial, finish, takes-of}
 use Rattle.fifo.specs.Walk.{Starting}
 use Rattle.fifo.specs.Laws.{room, Laws}
-use Rattle.fifo.proofs.Lists.{tested, holds}
+use Rattle.fifo.proofs.Lists.{tested, holds, empty-or-not}
 use Rattle.fifo.proofs.Induction.{run-stopped, takes-stopped}
-use Rattle.fifo.proofs.Runs.{empty-or-not}
 use Rattle.fifo.proofs.Sound.{passing-starts, room-at-most-cells}
 use Rattle.fifo.proofs.Ends.{ends-within-square}
 use Rattle.rules.specs.declared.BarrierDiagonals.{BarrierDiagonals}

@@ -1,9 +1,9 @@
 -- The numbers that the rules name, and nodata of bytes. Definitions only.
-use mathlib.Core.Bool.{Bool, true, false, not, _&&_}
+use mathlib.Core.Bool.{Bool, false, not, _&&_}
 use Prim.Native.Nat.{ℕ}
 use lib.Dec.{eqb}
 use lib.IntN.{pos}
-use lib.Ieee.{Float, nan, inf, fin, binary32, ofBits, ofInt, div}
+use lib.Ieee.{Float, inf, binary32, ofBits, ofInt, div}
 
 abbrev pub infinity : Float
 infinity = inf false
@@ -15,11 +15,6 @@ quarter-of-largest = div binary32 (ofBits binary32 0x7f7f_ffff) (ofBits binary32
 -- A whole number as an f32.
 abbrev pub whole : ℕ → Float
 whole k = ofInt binary32 (pos k)
-
-abbrev pub finite : Float → Bool
-finite nan = false
-finite (inf s) = false
-finite (fin s m e) = true
 
 -- In byte grids 255 is nodata.
 abbrev pub nodata-byte : ℕ → Bool

@@ -6,10 +6,10 @@ use lib.Dec.{leb, eqb}
 use lib.IntN.{ℤ, pos}
 use lib.Signed.{mag, leZ}
 use lib.Ieee.{Float, isNan, lt, le}
+use lib.Ieee.Scale.{finite}
 use Rattle.binary32.specs.Numbers.{plus-zero}
 pub use Rattle.rules.specs.declared.Size.{Size}
 pub use Rattle.rules.specs.declared.Spacing.{Spacing}
-use Rattle.rules.specs.Numbers.{finite}
 
 -- ---- sizes
 

@@ -12,8 +12,7 @@ use lib.Seq.{getD-set-same, getD-set-other}
 use Rattle.cells.specs.Ring.{SaysEmpty}
 use Rattle.binary32.specs.Numbers.{plus-zero}
 use Rattle.fifo.specs.Machine.{Net, among, joined}
-use Rattle.fifo.proofs.Lists.{same-or-not, among-other, among-last, joined-new, joined-waiting}
-use Rattle.fifo.proofs.Induction.{getD-any}
+use Rattle.fifo.proofs.Lists.{same-or-not, among-other, among-last, joined-new, joined-waiting, getD-any}
 use Rattle.rules.specs.Sizes.{count}
 use Rattle.rules.specs.Sums.{gaining-one, gaining-of, gain}
 use Rattle.rules.specs.Values.{Carried}

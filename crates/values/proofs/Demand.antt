@@ -6,6 +6,8 @@ use native.Mathlib.Omega.{arith}
 use lib.Dec.{T}
 use lib.Ieee.{Float, nan, binary32, fits}
 use lib.ListN.{length, getD}
+use lib.Ieee.Fits.{inf-fits}
+use Rattle.binary32.proofs.NotANumber.{infinity-not-nan}
 use Rattle.fifo.specs.Machine.{Net, finish, takes-of}
 use Rattle.fifo.specs.Laws.{Laws, room}
 use Rattle.fifo.proofs.Search.{read-length, read-at}
@@ -13,7 +15,7 @@ use Rattle.rules.specs.declared.Size.{Size}
 use Rattle.rules.specs.Numbers.{infinity}
 use Rattle.rules.specs.Sizes.{grid, Judged, count}
 use Rattle.rules.specs.Values.{Carried, values-of, closest, closest-by-time, refusals-4, refusals-5, refusals-6, outcome-4, outcome-5, outcome-6}
-use Rattle.rules.proofs.Inputs.{AcceptedTimes, infinity-fits, infinity-not-nan}
+use Rattle.rules.proofs.Inputs.{AcceptedTimes}
 use Rattle.rules.proofs.Accepted.{accepted-5, accepted-6}
 use Rattle.rules.proofs.Nets.{closest-laws, closest-by-time-laws}
 use Rattle.rules.proofs.ClosestTargets.{closest-targets-4, closest-targets-by-time}
@@ -64,8 +66,8 @@ module _
         let found = accepted-found (refusals-5 of timed valued (lengths answer distances marks queue)) _ _ t (promise .promised) said in
         let (bounds, none-negative) = accepted-5 of timed valued (lengths answer distances marks queue) (found .passed) in
         let times-good : AcceptedTimes timed = record { held = times-held; none-negative = none-negative } in
-        let closest-ones = closest-targets-by-time of timed valued infinity times-good infinity-fits infinity-not-nan in
-        answers (closest-by-time-laws of timed valued infinity times-good infinity-fits infinity-not-nan) size refl closest-ones (closest-ones .takes-within-square) found
+        let closest-ones = closest-targets-by-time of timed valued infinity times-good (inf-fits binary32 false) infinity-not-nan in
+        answers (closest-by-time-laws of timed valued infinity times-good (inf-fits binary32 false) infinity-not-nan) size refl closest-ones (closest-ones .takes-within-square) found
 
     pub answers-closest-6 :
         (limit : Float) → T (fits binary32 limit)

@@ -6,13 +6,14 @@ use Prim.Native.Nat.{ℕ, suc, _*_}
 use lib.Dec.{T}
 use lib.Ieee.{Float, nan, binary32, fits, isNan}
 use lib.ListN.{length, getD, replicate}
+use lib.Ieee.Fits.{inf-fits}
 use Rattle.binary32.specs.Numbers.{plus-zero}
+use Rattle.binary32.proofs.NotANumber.{infinity-not-nan}
 use Rattle.fifo.specs.Machine.{finish, takes-of}
 use Rattle.rules.specs.declared.Size.{Size}
 use Rattle.rules.specs.Sizes.{grid, Judged, Lent, Outcome, accepted, passes, unless, in-bounds, any, below-zero, count}
 use Rattle.rules.specs.Numbers.{infinity}
 use Rattle.rules.specs.Values.{values-of, closest, closest-by-time, refusals-4, refusals-5, refusals-6}
-use Rattle.rules.proofs.Inputs.{infinity-fits, infinity-not-nan}
 use Rattle.rules.proofs.Accepted.{accepted-5, accepted-6}
 use Rattle.rules.proofs.Nets.{closest-laws, closest-by-time-laws}
 use Rattle.calls.specs.declared.answer.Answer.{Answer}
@@ -185,7 +186,7 @@ module _
     searches-5 times-held =
         let (bounds, none-negative) = accepted-5 (grid size targets) (grid times-size times) (grid values-size values) (lent-of answer distances marks queue) pass in
         by-time-searches size targets times-size times values-size values limit (shaped _ _ _ _ _ (record { is = sym pass })) refl times-held
-        (rw unlimited infinity-fits) (rw unlimited infinity-not-nan) none-negative
+        (rw unlimited (inf-fits binary32 false)) (rw unlimited infinity-not-nan) none-negative
 
     pub searched-5 :
         searched (by-time-search size targets times-size times values-size values limit) (grids targets targets times values)

@@ -2,7 +2,7 @@
 use mathlib.Core.Path.{ap}
 use lib.Ieee.{nan, lt}
 use Rattle.rules.specs.Numbers.{infinity}
-use Rattle.fifo.proofs.Induction.{getD-any}
+use Rattle.fifo.proofs.Lists.{getD-any}
 use borrow.Author.Needs.{needs}
 use Rattle.reach.proofs.summing.is_above.Statement.{statement}
 use Rattle.reach.proofs.summing.is_above.Tie as tie
