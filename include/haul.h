@@ -54,8 +54,8 @@ enum {
 };
 
 /*
- * Search 1: how far each cell is from the nearest target over open ground, up to a limit. Cells whose target is nodata
- * are not entered and are NaN in the answer.
+ * Search 1: how far each cell is from the nearest target over open ground, up to a limit; a target is at 0 under any
+ * limit. Cells whose target is nodata are not entered and are NaN in the answer.
  */
 uint32_t haul_distances_up_to(
     int32_t rows, int32_t columns,              /* size of the targets */
@@ -86,9 +86,9 @@ uint32_t haul_distance_with_obstacles(
     uint32_t *index);                                /* not written by this search */
 
 /*
- * Search 3: how long the way from each cell to the nearest target takes over the terrain, up to a limit. A step costs
- * half its length times the sum of both cells' times. Where target or time is nodata, a cell is neither started from
- * nor entered, and is NaN in the answer.
+ * Search 3: how long the way from each cell to the nearest target takes over the terrain, up to a limit; a target is at
+ * 0 under any limit. A step costs half its length times the sum of both cells' times. Where target or time is nodata, a
+ * cell is neither started from nor entered, and is NaN in the answer.
  */
 uint32_t haul_travel_distances_up_to(
     int32_t rows, int32_t columns,              /* size of the targets */
@@ -138,7 +138,8 @@ uint32_t haul_value_at_closest_travel_target(
     uint32_t *index);                           /* out, with HAUL_NEGATIVE_TIME */
 
 /*
- * Search 6: as search 5, for the cells whose travel time is below a limit; the others are 0 in the answer.
+ * Search 6: as search 5, for the cells whose travel time is below a limit; the others are 0 in the answer. A target has
+ * its own value under any limit.
  */
 uint32_t haul_value_at_closest_less_than_travel_target(
     int32_t rows, int32_t columns,              /* size of the targets */
@@ -174,13 +175,14 @@ uint32_t haul_sum_within_travel_distance(
     float *distances, size_t distances_len,    /* work buffer, n */
     uint8_t *marks, size_t marks_len,          /* work buffer, n */
     uint32_t *listed, size_t listed_len,       /* work buffer, n */
-    uint32_t *adjacent, size_t adjacent_len,   /* work buffer, n */
+    uint32_t *adjacent, size_t adjacent_len,   /* work buffer, n: marks listed cells and those added beside them */
     uint32_t *queue, size_t queue_len,         /* work buffer, n + 1 */
     uint64_t *takes,                           /* out: how many cells were taken from the queue, over all mask cells */
     uint32_t *index);                          /* out, with HAUL_NEGATIVE_TIME and HAUL_OVER_BUDGET */
 
 /*
- * Search 8: for each cell the sum of the amounts, such as timber, whose travel time to it is within the budget. Steps
+ * Search 8: for each cell the sum of the amounts, such as timber, whose travel time to it is within the budget. (From
+ * 16,777,216 on budget + 1 may round to the budget, and an amount at exactly the budget is then not counted.) Steps
  * cost as in search 5, but a nodata time counts as the largest float divided by 4. An amount on a cell whose time is
  * nodata goes nowhere.
  */

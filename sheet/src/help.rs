@@ -61,7 +61,9 @@ fn limit_help(search: Search) -> &'static str {
     match search {
         Search::DistancesUpTo => "in cells: cells that are not nearer hold the limit times the cell size",
         Search::TravelDistancesUpTo => "in time: cells that are not nearer hold it",
-        Search::ValueAtClosestLessThanTravelTarget => "in time: cells that are not nearer hold 0",
+        Search::ValueAtClosestLessThanTravelTarget => {
+            "in time: cells that are not nearer hold 0, save landings, which hold their own value"
+        }
         Search::SumWithinTravelDistance => {
             "the budget of time, above 0. All that can be reached must lie within it, else there is no sheet"
         }

@@ -53,7 +53,8 @@ pub fn value_at_closest_travel_target(
     sheet(targets, |workspace, answer| workspace.value_at_closest_travel_target(targets, times, values, answer))
 }
 
-/// Search 6: as search 5, for cells whose travel time is below `limit`; the others hold 0.
+/// Search 6: as search 5, for cells whose travel time is below `limit`; the others hold 0. A target holds its own value
+/// under any limit.
 pub fn value_at_closest_less_than_travel_target(
     targets: Grid<u8>,
     times: Grid<f32>,
@@ -82,6 +83,7 @@ pub fn sum_within_travel_distance(
 
 /// Search 8: for each cell the sum of the amounts whose travel time to it is within the budget `limit`.
 ///
+/// From 16,777,216 on budget + 1 may round to the budget, and an amount at exactly the budget is then not counted.
 /// Steps cost as in search 5, but a nodata time counts as the largest f32 divided by 4. An amount on a cell with nodata
 /// time goes nowhere.
 pub fn sum_targets_within_travel_distance(times: Grid<f32>, amounts: Grid<f32>, limit: f32) -> Result<Sheet, Refusal> {

@@ -1,4 +1,4 @@
--- A program that has read one byte more of a file than the longest has answers as if it had read all of it. Assumes nothing.
+-- A program that has read one byte more of a file than the longest that keeps the form has answers as if it had read all of it. Assumes nothing.
 use mathlib.Core.Path.{_≡_, sym, ap, _∙_}
 use mathlib.Core.List.{List}
 use Prim.Native.Nat.{ℕ, suc, _<_}

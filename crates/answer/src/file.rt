@@ -8,7 +8,8 @@ ghost use Rattle.answer.specs.Answering.{Answered};
 // The bytes of the longest answer: the status, the takes, and a grid of 1,024 cells.
 pub const LONGEST: usize = 4114;
 
-// The bytes of the longest file that is not refused: 24, and three grid fields of 4,096.
+// The bytes of the longest file that keeps the form: 24, and three grid fields of 3 + 4,096.
+// (That is refusal 3, as its byte grid has more than n cells; each longer one is refusal 8.)
 pub const LONGEST_FILE: usize = 12_321;
 
 // The number that the file form is refused with.

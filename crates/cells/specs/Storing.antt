@@ -1,4 +1,4 @@
--- What the inner functions of the neighbours' list are asked and promise. Definitions only.
+-- What going to one neighbour, `neighbour_at`, and storing it are asked and promise. Definitions only.
 use mathlib.Core.Path.{_≡_}
 use mathlib.Core.List.{List, [], _∷_}
 use Prim.Native.Nat.{ℕ, _+_, _<_}

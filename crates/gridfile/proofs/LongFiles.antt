@@ -1,4 +1,4 @@
--- A file that is not refused has at most 12,321 bytes: a program that has read more need not read on. Assumes nothing.
+-- A file that keeps the form has at most 12,321 bytes: a program that has read more need not read on. Assumes nothing.
 use mathlib.Core.Path.{_≡_, refl, sym, ap, subst, _∙_}
 use mathlib.Core.Bool.{Bool, true, false, cond}
 use mathlib.Core.List.{List, [], _∷_}
@@ -125,7 +125,7 @@ found-short search long (whole fields) g spans e fit =
     let never : _≡_ {A = ℕ} 0 1 = cc in
     absurd (omega arith))
 
--- The longest file that is not refused: 24 bytes, and three grid fields of 4,096.
+-- The longest file that keeps the form: 24 bytes, and three grid fields of 3 + 4,096.
 abbrev pub longest-file : ℕ
 longest-file = 12321
 

@@ -5,7 +5,7 @@ use answer::answer_file;
 use libc::STDIN_FILENO;
 use libc::STDOUT_FILENO;
 
-// One byte more than the longest file that is not refused has: what fills the array is refusal 8,
+// One byte more than the longest file that keeps the form has: what fills the array is refusal 8,
 // whatever comes after it (proofs/Reading.antt of `answer`).
 const INPUT: usize = LONGEST_FILE + 1;
 

@@ -52,11 +52,12 @@ unfoldable pub keep : (ℕ → Bool) → List ℕ → List ℕ
 keep test [] = []
 keep test (v ∷ vs) = cond (test v) (v ∷ keep test vs) (keep test vs)
 
--- The permitted steps from u, each with the label that it gives the entered cell: the straight ones that pass one test, then the
--- diagonal ones that pass another. `entering s v` turns the label of the cell that is left into that of v, over a step of length s.
+-- A step of length s to v: `entering s v` turns the label of the cell that is left into that of v.
 abbrev pub over : {L : Type 0} → Float → (Float → ℕ → L → L) → ℕ → ℕ × (L → L)
 over s entering v = (v, entering s v)
 
+-- The permitted steps from u, each with the label that it gives the entered cell: the straight ones that pass one test, then the
+-- diagonal ones that pass another.
 unfoldable pub moves : {L : Type 0} → Size → (ℕ → Bool) → (ℕ → Bool) → (Float → ℕ → L → L) → ℕ → List (ℕ × (L → L))
 moves size may-straight may-diagonal entering u =
     map (over straight entering) (keep may-straight (straight-neighbours size u))

@@ -80,7 +80,8 @@ pub record FromClosest (n : ℕ) (starts : ℕ → Bool) (Allowed : ℕ → ℕ 
   pub its-value : x ≡ value from
   pub no-less : (e : Float) → Path n starts Allowed c e → lt e d ≡ false
 
--- Each cell, save those marked nodata, holds the value of a nearest target, or 0 where no target is nearer than the cap.
+-- Each cell, save those marked nodata, holds the value of a nearest target, or 0, and that only where no target is nearer than the cap. (A cap at or
+-- below 0 leaves the targets their own values, with which they start.)
 pub record HoldsClosest (net : Net Carried) (marked : ℕ → Bool) (Allowed : ℕ → ℕ → Float → Type 0) (value : ℕ → Float) (cap : Float) : Type 0 where
   pub marked-holds-nan : (c : ℕ) → c < net .cells → T (marked c) → label net (finish net) c ≡ (nan, nan)
   pub other-holds-closest :

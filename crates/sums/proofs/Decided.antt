@@ -23,7 +23,7 @@ use Rattle.sums.specs.Promise.{lengths-7, SumWithinTravelDistance, lengt
 
 -- ---- search 7
 
--- Two calls answer the same, and leave the same also in the buffers of distances, of the listed cells and of the adjacent ones.
+-- Two calls answer the same, and leave the same also in the buffers of distances, of the listed cells and of the marks (`adjacent`).
 pub record SameSums (r s : Answer) (answer₁ answer₂ distances₁ distances₂ : List Float) (marks₁ marks₂ listed₁ listed₂ adjacent₁ adjacent₂ queue₁ queue₂ : List ℕ) : Type 0 where
   pub same : Same r s answer₁ answer₂ marks₁ marks₂ queue₁ queue₂
   pub distances : distances₁ ≡ distances₂

@@ -17,7 +17,8 @@ use Rattle.sums.specs.FromAmounts.{Searching}
 
 -- ---- 7: sum_within_travel_distance
 
--- What every search promises, and the same of the buffers of distances, of the listed cells and of the adjacent ones.
+-- What every search promises, and the same of the buffers of distances, of the listed cells, and of the marks for these and for the cells added
+-- beside them (`adjacent`).
 pub record PromisedSums (outcome : Outcome) (r : Answer) (answer distances : Slice Float) (marks listed adjacent queue : Slice ℕ) : Type 0 where
   pub promised : Promised outcome r answer marks queue
   pub distances-left : distances .after ≡ buffer-after plus-zero outcome (distances .before)

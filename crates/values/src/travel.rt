@@ -58,7 +58,8 @@ pub fn value_at_closest_travel_target(
     }
 }
 
-// The same, of the targets that are nearer than the limit: 0 where there is none.
+// The same, of the targets that are nearer than the limit: 0 where there is none. A target holds its
+// own value under any limit.
 pub fn value_at_closest_less_than_travel_target(
     targets_size: Size,
     targets: &[u8],

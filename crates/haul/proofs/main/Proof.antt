@@ -14,7 +14,7 @@ slice-aggregate-read-full c = search needs
 read-full-requires : tie.Need-read-full-requires
 read-full-requires c κs = search needs
 
--- What is read into has one byte more than the longest file that is not refused, so that what was read has the answer of the whole
+-- What is read into has one byte more than the longest file that keeps the form, so that what was read has the answer of the whole
 -- file (`read-enough` of `answer`).
 pub input-enough : (c : tie.After-read-full) → length (c .read-full .last .1 .0) ≡ suc longest-file
 input-enough c = search needs
