@@ -26,6 +26,7 @@ refusal-number BadLimit = number 5
 refusal-number (NegativeTime i) = number-at 6 i
 refusal-number (OverBudget i) = number-at 7 i
 
+-- The same of what the tests come to.
 abbrev pub judged-as : Judged → rules.Judged
 judged-as Passes = passes
 judged-as (Stops refusal) = stops (refusal-number refusal)
@@ -35,10 +36,12 @@ pub data Told : Type 0 where
   refusal : rules.Refusal → Told
   takes : ℕ → Told
 
+-- What the code's answer says.
 abbrev pub told : Answer → Told
 told (Accepted counts) = takes (counts .takes)
 told (Refused r) = refusal (refusal-number r)
 
+-- What an outcome of the rules says.
 abbrev pub tell : Outcome → Told
 tell (refused r) = refusal r
 tell (accepted t grid) = takes t

@@ -16,6 +16,7 @@ little-endian (suc count) n = n % 256 ∷ little-endian count (n / 256)
 abbrev pub field-head : ℕ → ℕ → List ℕ
 field-head tag len = tag ∷ little-endian 2 len
 
+-- A field whose content is a number, of so many bytes.
 abbrev pub number-field : ℕ → ℕ → ℕ → List ℕ
 number-field tag count n = field-head tag count ++ little-endian count n
 
@@ -24,6 +25,7 @@ unfoldable pub float-bytes : List Float → List ℕ
 float-bytes [] = []
 float-bytes (x ∷ grid) = little-endian 4 (toBits binary32 x) ++ float-bytes grid
 
+-- A field whose content is a grid.
 abbrev pub grid-field : ℕ → List Float → List ℕ
 grid-field tag grid = field-head tag (length (float-bytes grid)) ++ float-bytes grid
 

@@ -20,6 +20,7 @@ unfoldable pub floats-from : List ℕ → ℕ → ℕ → List Float
 floats-from file at zero = []
 floats-from file at (suc count) = ofBits binary32 (u32-of file at) ∷ floats-from file (at + 4) count
 
+-- The floats of a part.
 abbrev pub floats-in : List ℕ → Part → List Float
 floats-in file p = floats-from file (p .start) (p .len / 4)
 
@@ -36,5 +37,6 @@ written-out file (Good r) =
     (bytes-in file (g .targets)) (bytes-in file (g .obstacles)) (floats-in file (g .times)) (floats-in file (g .values))
 written-out file Bad = refuses (number 8)
 
+-- What a byte string asks for, or refusal 8.
 abbrev pub asked : List ℕ → Asked
 asked file = written-out file (parsed file)

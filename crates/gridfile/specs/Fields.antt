@@ -37,6 +37,7 @@ pub data Fields : Type 0 where
   cut : Fields
   whole : List Field → Fields
 
+-- A field and those after it, unless one of these is cut.
 abbrev pub and-then : Field → Fields → Fields
 and-then f cut = cut
 and-then f (whole fields) = whole (f ∷ fields)

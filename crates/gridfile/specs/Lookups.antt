@@ -22,10 +22,12 @@ field-at file at tag =
     let len = u16-of file (at + 1) in
     cond (leb (at + 3) (length file) && eqb (byte file at) tag && leb (at + 3 + len) (length file)) (Content (part (at + 3) len)) Missing
 
+-- Whether a content was found, and has this length.
 abbrev pub long : ℕ → Sought → Bool
 long len (Content p) = eqb (p .len) len
 long len Missing = false
 
+-- Whether a field of this tag and this length stands there.
 abbrev pub stands-at : List ℕ → ℕ → ℕ → ℕ → Bool
 stands-at file at tag len = long len (field-at file at tag)
 
@@ -35,9 +37,11 @@ has-head file = stands-at file 0 0x01 3 && stands-at file 6 0x02 4 && stands-at 
 
 -- ---- the grids from a place on
 
+-- Which of the four grids a list of tags names.
 abbrev pub has-of : List ℕ → Has
 has-of tags = record { targets = among 0x04 tags; obstacles = among 0x05 tags; times = among 0x06 tags; values = among 0x07 tags }
 
+-- The content that was found is the grid, and the next field stands behind it.
 abbrev pub then-next : Sought → Next
 then-next (Content p) = next.Grid p (p .start + p .len)
 then-next Missing = next.Breach

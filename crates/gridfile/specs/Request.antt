@@ -16,6 +16,7 @@ pub use Rattle.gridfile.specs.declared.request.Parsed.the-variants.{Good
 
 -- ---- what each search uses
 
+-- Whether a number is in a list.
 unfoldable pub among : ℕ → List ℕ → Bool
 among k [] = false
 among k (l ∷ more) = eqb k l || among k more
@@ -61,12 +62,13 @@ head-of file at-01 at-02 at-03 = record {
 abbrev pub zero-unless : Bool → ℕ → Bool
 zero-unless used number = used || eqb number 0
 
--- The search is 1 to 8, a flag 0 or 1.
+-- The search is 1 to 8, a flag 0 or 1, and 0 where it is unused.
 abbrev pub flags-fit : ℕ → ℕ → ℕ → Bool
 flags-fit search diagonals adjacent =
     leb 1 search && leb search 8 && leb diagonals 1 && leb adjacent 1
     && zero-unless (uses-diagonals search) diagonals && zero-unless (uses-adjacent search) adjacent
 
+-- Cell size and limit, by their bits, are 0 where they are unused.
 abbrev pub numbers-fit : ℕ → ℕ → ℕ → Bool
 numbers-fit search cell-size limit = zero-unless (uses-cell-size search) cell-size && zero-unless (uses-limit search) limit
 
@@ -74,6 +76,7 @@ numbers-fit search cell-size limit = zero-unless (uses-cell-size search) cell-si
 abbrev pub few-cells : ℕ → ℕ → Bool
 few-cells rows cols = leb (rows * cols) 1024
 
+-- Nothing in 01, 02 or 03 is outside its range.
 unfoldable pub head-fits : Head → Bool
 head-fits h = flags-fit (h .search) (h .diagonals) (h .adjacent) && numbers-fit (h .search) (h .«cell_size») (h .limit) && few-cells (h .rows) (h .cols)
 
@@ -95,11 +98,13 @@ small-bytes p = leb (p .len) 4096
 abbrev pub small-floats : Part → Bool
 small-floats p = small-bytes p && eqb (p .len % 4) 0
 
+-- Each of the four has such a length.
 unfoldable pub grids-fit : Grids → Bool
 grids-fit g = small-bytes (g .targets) && small-bytes (g .obstacles) && small-floats (g .times) && small-floats (g .values)
 
 -- ---- the file
 
+-- Whether two lists of tags are the same.
 unfoldable pub same : List ℕ → List ℕ → Bool
 same [] [] = true
 same [] (b ∷ more) = false
@@ -110,6 +115,7 @@ same (a ∷ rest) (b ∷ more) = eqb a b && same rest more
 abbrev pub diagonals-of : ℕ → BarrierDiagonals
 diagonals-of flag = cond (eqb flag 0) Include Exclude
 
+-- What the bytes ask for: the flags by their meaning, floats from their bits.
 abbrev pub as-request : Head → Grids → Request
 as-request h g = record {
   search = h .search;

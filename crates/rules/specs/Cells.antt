@@ -36,6 +36,7 @@ neighbour size u offset =
     let col = pos (col-of size u) +ℤ getD offset 1 (pos 0) in
     cond (within (size .rows) row && within (size .cols) col) (index size (mag row) (mag col) ∷ []) []
 
+-- The cells at some offsets from u, in the order of these.
 unfoldable pub neighbours : Size → ℕ → List (List ℤ) → List ℕ
 neighbours size u [] = []
 neighbours size u (offset ∷ others) = neighbour size u offset ++ neighbours size u others

@@ -25,6 +25,7 @@ float grid c = getD (grid .cells) c nan
 abbrev pub target : Grid ℕ → ℕ → Bool
 target targets c = target-byte (byte targets c)
 
+-- A target has data unless its byte is 255, a time, value or amount unless it is NaN.
 abbrev pub target-data : Grid ℕ → ℕ → Bool
 target-data targets c = not (nodata-byte (byte targets c))
 
@@ -56,11 +57,13 @@ plain targets cap = record {
 unfoldable pub scaled : Float → List Float → List Float
 scaled cell-size labels = map (λ d. mul binary32 d cell-size) labels
 
+-- Refusals 1 to 3, then 4 for the cell size and 5 for a limit that is NaN.
 unfoldable pub refusals-1 : Grid ℕ → Spacing → Lent → Judged
 refusals-1 targets spacing lent = first-that-holds (
     shape (targets .size) [] (length (targets .cells) ∷ []) lent (
     bad-cell-size (spacing .«cell_size») ∷ nan-limit (spacing .limit) ∷ []))
 
+-- The takes and the scaled distances.
 unfoldable pub outcome-1 : Grid ℕ → Spacing → Lent → Outcome
 outcome-1 targets spacing lent = unless (refusals-1 targets spacing lent) (λ search.
     let net = plain targets (spacing .limit) in
@@ -93,11 +96,13 @@ with-obstacles targets obstacles diagonals = record {
   nbrs = λ u. moves (targets .size) (free obstacles) (λ v. free obstacles v && not (blocked diagonals obstacles u v)) plus-step u;
 }
 
+-- Refusals 1 to 3, then 4. Not 5: search 2 never reads the limit.
 unfoldable pub refusals-2 : Grid ℕ → Grid ℕ → Spacing → Lent → Judged
 refusals-2 targets obstacles spacing lent = first-that-holds (
     shape (targets .size) (obstacles .size ∷ []) (length (targets .cells) ∷ length (obstacles .cells) ∷ []) lent (
     bad-cell-size (spacing .«cell_size») ∷ []))
 
+-- Scaled as 1.
 unfoldable pub outcome-2 : Grid ℕ → Grid ℕ → Spacing → BarrierDiagonals → Lent → Outcome
 outcome-2 targets obstacles spacing diagonals lent = unless (refusals-2 targets obstacles spacing lent) (λ search.
     let net = with-obstacles targets obstacles diagonals in
@@ -113,6 +118,7 @@ half-sum times u v s = mul binary32 (div binary32 s two) (add binary32 (float ti
 abbrev pub plus-half-sum : Grid Float → ℕ → Float → ℕ → Float → Float
 plus-half-sum times u s v d = add binary32 d (half-sum times u v s)
 
+-- Neither target nor time is nodata.
 abbrev pub both-data : Grid ℕ → Grid Float → ℕ → Bool
 both-data targets times c = target-data targets c && has-data times c
 
@@ -127,6 +133,7 @@ travel targets times cap = record {
   nbrs = λ u. moves (targets .size) (both-data targets times) (both-data targets times) (plus-half-sum times u) u;
 }
 
+-- Refusals 1 to 3, then 5 for a cap that is NaN, and 6.
 unfoldable pub refusals-3 : Grid ℕ → Grid Float → Float → Lent → Judged
 refusals-3 targets times cap lent = first-that-holds (
     shape (targets .size) (times .size ∷ []) (length (targets .cells) ∷ length (times .cells) ∷ []) lent (

@@ -18,6 +18,7 @@ pub record Grid (A : Type 0) : Type 0 where
   pub size : Size
   pub cells : List A
 
+-- A slice as a grid of a size.
 abbrev pub grid : {A : Type 0} → Size → List A → Grid A
 grid size cells = record { size = size; cells = cells }
 
@@ -36,6 +37,7 @@ in-bounds s = side-fits (s .rows) && side-fits (s .cols) && leb (count s) 104857
 abbrev pub same-number : ℤ → ℤ → Bool
 same-number k l = leZ k l && leZ l k
 
+-- Two sizes with the same rows and the same columns.
 abbrev pub same-size : Size → Size → Bool
 same-size a b = same-number (a .rows) (b .rows) && same-number (a .cols) (b .cols)
 
@@ -78,6 +80,7 @@ abbrev pub or-else : Judged → Judged → Judged
 or-else passes later = later
 or-else (stops refusal) later = stops refusal
 
+-- Whether any in a list passes the test.
 unfoldable pub any : {A : Type 0} → (A → Bool) → List A → Bool
 any test [] = false
 any test (a ∷ rest) = test a || any test rest
@@ -95,10 +98,10 @@ out-of-bounds size = not (in-bounds size)
 abbrev pub differs : Size → Size → Bool
 differs a b = not (same-size a b)
 
--- 3: a lent slice has not its length: n, or n + 1 for the queue.
 abbrev pub other-than : ℕ → ℕ → Bool
 other-than n length = not (eqb length n)
 
+-- 3: a lent slice has not its length: n, or n + 1 for the queue.
 abbrev pub wrong-length : Size → List ℕ → Lent → Bool
 wrong-length size inputs lent = any (other-than (count size)) (inputs ++ lent .slices) || other-than (suc (count size)) (lent .queue)
 
@@ -113,16 +116,18 @@ shape size others inputs lent more =
 abbrev pub bad-cell-size : Float → Bool × Refusal
 bad-cell-size x = (not (finite x && lt plus-zero x), number 4)
 
--- 5: the limit is NaN; of a budget, also limit <= 0.
+-- 5: the limit is NaN.
 abbrev pub nan-limit : Float → Bool × Refusal
 nan-limit limit = (isNan limit, number 5)
 
+-- 5 in searches 7 and 8: also limit <= 0.
 abbrev pub bad-budget : Float → Bool × Refusal
 bad-budget limit = (isNan limit || le limit plus-zero, number 5)
 
--- 6: a time with data is below 0, with the first such index. -0.0 is not, and NaN is nodata.
+-- -0.0 is no negative time, and NaN is nodata.
 abbrev pub below-zero : Float → Bool
 below-zero time = lt time plus-zero
 
+-- 6: a time with data is below 0, with the first such index.
 abbrev pub negative-time : List Float → Bool × Refusal
 negative-time times = (any below-zero times, number-at 6 (first-index below-zero times))

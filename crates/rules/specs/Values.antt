@@ -23,6 +23,7 @@ nearer (d, x) (e, y) = lt d e
 abbrev pub carrying : (Float → ℕ → Float → Float) → Float → ℕ → Carried → Carried
 carrying step s v (d, x) = (step s v d, x)
 
+-- What is answered: the values without their distances.
 abbrev pub values-of : List Carried → List Float
 values-of labels = map (λ l. l .1) labels
 
@@ -39,10 +40,12 @@ closest targets values = record {
   nbrs = moves (targets .size) (λ v. true) (λ v. true) (carrying plus-step);
 }
 
+-- Refusals 1 to 3 alone.
 unfoldable pub refusals-4 : Grid ℕ → Grid Float → Lent → Judged
 refusals-4 targets values lent = first-that-holds (
     shape (targets .size) (values .size ∷ []) (length (targets .cells) ∷ length (values .cells) ∷ []) lent [])
 
+-- The takes and the values.
 unfoldable pub outcome-4 : Grid ℕ → Grid Float → Lent → Outcome
 outcome-4 targets values lent = unless (refusals-4 targets values lent) (λ search.
     let net = closest targets values in
@@ -54,14 +57,15 @@ outcome-4 targets values lent = unless (refusals-4 targets values lent) (λ sear
 abbrev pub plus-time : Grid Float → Float → ℕ → Float → Float
 plus-time times s v d = add binary32 d (mul binary32 s (float times v))
 
+-- A nonzero target starts, and 255 is nonzero, unless the value is nodata.
 abbrev pub starts-by-time : Grid ℕ → Grid Float → ℕ → Bool
 starts-by-time targets values c = has-data values c && not (eqb (byte targets c) 0)
 
+-- A nodata value is never entered; a nodata b gives NaN and is not entered.
 abbrev pub entered-by-time : Grid Float → Grid Float → ℕ → Bool
 entered-by-time times values c = has-data values c && has-data times c
 
--- Nodata value: NaN, never entered. Otherwise a nonzero target starts, and 255 is nonzero. The distance starts at infinity (5) or the limit (6), the value at 0.
--- A nodata b gives NaN and is not entered.
+-- Nodata value: answer NaN. Otherwise the distance starts at infinity (5) or the limit (6), the value at 0, save where a target starts.
 unfoldable pub closest-by-time : Grid ℕ → Grid Float → Grid Float → Float → Net Carried
 closest-by-time targets times values limit = record {
   cells = count (targets .size);
@@ -72,21 +76,25 @@ closest-by-time targets times values limit = record {
   nbrs = moves (targets .size) (entered-by-time times values) (entered-by-time times values) (carrying (plus-time times));
 }
 
+-- Refusals 1 to 3, then 6.
 unfoldable pub refusals-5 : Grid ℕ → Grid Float → Grid Float → Lent → Judged
 refusals-5 targets times values lent = first-that-holds (
     shape (targets .size) (times .size ∷ values .size ∷ []) (length (targets .cells) ∷ length (times .cells) ∷ length (values .cells) ∷ []) lent (
     negative-time (times .cells) ∷ []))
 
+-- The distance starts at infinity.
 unfoldable pub outcome-5 : Grid ℕ → Grid Float → Grid Float → Lent → Outcome
 outcome-5 targets times values lent = unless (refusals-5 targets times values lent) (λ search.
     let net = closest-by-time targets times values infinity in
     accepted (takes-of net) (values-of (finish net .labels)))
 
+-- Refusals 1 to 3, then 5 for a limit that is NaN, and 6.
 unfoldable pub refusals-6 : Grid ℕ → Grid Float → Grid Float → Float → Lent → Judged
 refusals-6 targets times values limit lent = first-that-holds (
     shape (targets .size) (times .size ∷ values .size ∷ []) (length (targets .cells) ∷ length (times .cells) ∷ length (values .cells) ∷ []) lent (
     nan-limit limit ∷ negative-time (times .cells) ∷ []))
 
+-- The distance starts at the limit.
 unfoldable pub outcome-6 : Grid ℕ → Grid Float → Grid Float → Float → Lent → Outcome
 outcome-6 targets times values limit lent = unless (refusals-6 targets times values limit lent) (λ search.
     let net = closest-by-time targets times values limit in

@@ -23,6 +23,7 @@ pub record Grids : Type 0 where
   pub times : List Float
   pub values : List Float
 
+-- A slice as a grid of the search's size.
 abbrev pub sized : {A : Type 0} → Search → List A → Grid A
 sized search cells = grid (search .size) cells
 
@@ -48,9 +49,11 @@ restepping net steps = record {
   nbrs = steps;
 }
 
+-- Every neighbour is tried.
 abbrev pub anywhere : ℕ → Bool
 anywhere v = true
 
+-- For each rule document 01's net, with the steps that the loop tries.
 abbrev pub net-by : Rule → Search → Grids → Net Carried
 net-by Plain search grids = stepping (plain (sized search (grids .targets)) (search .limit)) (moves (search .size) anywhere anywhere (carrying plus-step))
 net-by (Obstacles diagonals) search grids =
@@ -73,6 +76,7 @@ net-by (FromAmount origin) search grids =
     let times = sized search (grids .times) in
     stepping (from-amount times (search .limit) origin) (moves (search .size) anywhere anywhere (carrying (plus-time-or-quarter times)))
 
+-- The net of a search is that of its rule.
 unfoldable pub net-of : Search → Grids → Net Carried
 net-of search grids = net-by (search .rule) search grids
 

@@ -38,6 +38,7 @@ formula ByTime times u = plus-time times
 formula (FromMaskCell origin) times u = plus-half-sum times u
 formula (FromAmount origin) times u = plus-time-or-quarter times
 
+-- The same of labels: the value goes along.
 abbrev pub entering : Search → List Float → ℕ → Float → ℕ → Carried → Carried
 entering search times u = carrying (formula (search .rule) (sized search times) u)
 
@@ -55,7 +56,7 @@ avoids ByTime = false
 avoids (FromMaskCell origin) = false
 avoids (FromAmount origin) = false
 
--- Whether v may be entered straight, and diagonally from u.
+-- Whether v may be entered by a straight step, and by a diagonal one from u.
 abbrev pub may-straight : Rule → Grid ℕ → ℕ → Bool
 may-straight Plain obstacles v = true
 may-straight (Obstacles diagonals) obstacles v = free obstacles v
@@ -76,6 +77,7 @@ may-diagonal (FromAmount origin) obstacles u v = true
 
 -- ---- what a rule permits and how it adds, by numbers, which the loop has as constants
 
+-- 0: d + s. 1: d + (s / 2) * (a + b). 2: d + s * b. 3: the same, where a nodata time counts as the largest f32 divided by 4.
 abbrev pub formula-number : Rule → ℕ
 formula-number Plain = 0
 formula-number (Obstacles diagonals) = 0
@@ -85,6 +87,7 @@ formula-number ByTime = 2
 formula-number (FromMaskCell origin) = 1
 formula-number (FromAmount origin) = 3
 
+-- 0: nothing. 1: obstacles. 2: these, and diagonals between two of them.
 abbrev pub avoided-number : Rule → ℕ
 avoided-number Plain = 0
 avoided-number (Obstacles Include) = 1
@@ -104,30 +107,36 @@ pub record Numbers : Type 0 where
 abbrev pub numbers : ℕ → ℕ → Bool → Numbers
 numbers formula avoided carrying = record { formula = formula; avoided = avoided; carrying = carrying }
 
+-- What the loop is given for a rule.
 abbrev pub numbers-of : Rule → Numbers
 numbers-of rule = numbers (formula-number rule) (avoided-number rule) (carries rule)
 
+-- The candidate, by the number of the formula.
 abbrev pub formula-by : ℕ → Grid Float → ℕ → Float → ℕ → Float → Float
 formula-by n times u s v d =
     cond (eqb n 0) (plus-step s v d)
     (cond (eqb n 1) (plus-half-sum times u s v d)
     (cond (eqb n 2) (plus-time times s v d) (plus-time-or-quarter times s v d)))
 
+-- Whether v may be entered at all, by the number of what is avoided.
 abbrev pub may-enter : ℕ → Grid ℕ → ℕ → Bool
 may-enter n obstacles v = cond (eqb n 0) true (free obstacles v)
 
+-- Whether the step from u to v is refused for the cells beside it: only a diagonal one can be.
 abbrev pub blocked-by : ℕ → Bool → Grid ℕ → ℕ → ℕ → Bool
 blocked-by n diagonally obstacles u v = cond (eqb n 2) (cond diagonally (blocked Exclude obstacles u v) false) false
 
+-- Whether the step from u to v is permitted.
 abbrev pub may-step : ℕ → Bool → Grid ℕ → ℕ → ℕ → Bool
 may-step n diagonally obstacles u v = cond (blocked-by n diagonally obstacles u v) false (may-enter n obstacles v)
 
 -- ---- the steps
 
+-- The length of a step.
 abbrev pub length-of : Bool → Float
 length-of diagonally = cond diagonally diagonal straight
 
--- The steps from u to those of the cells that may be entered.
+-- The straight steps from u to those of the cells that may be entered, and the diagonal ones.
 unfoldable pub straight-steps : Search → Terrain → ℕ → List ℕ → List (ℕ × (Carried → Carried))
 straight-steps search ground u vs =
     map (over straight (entering search (ground .times) u)) (keep (may-straight (search .rule) (grid (search .size) (ground .obstacles))) vs)

@@ -20,6 +20,7 @@ pub enum Rule {
     FromAmount(u32),
 }
 
+// All grids have the one size. The rules `Obstacles`, `Closest` and `FromMaskCell` do not read the limit.
 pub struct Search {
     pub rule: Rule,
     pub size: Size,
