@@ -1,6 +1,6 @@
 -- The cells beside the listed ones: a cell that is tried is added where the rules say so, and cells are tried one after the other. Assumes nothing.
 use mathlib.Core.Bool.{Bool, true, false, not, cond, _&&_}
-use mathlib.Core.List.{List, [], _∷_, _++_, append-assoc, foldl-append}
+use mathlib.Core.List.{List, [], _∷_, _++_, append-assoc, foldl, foldl-append}
 use mathlib.Core.Logic.{⊎-elim}
 use mathlib.Core.Path.{_≡_, refl, sym, ap, _∙_}
 use Prim.Native.Nat.{ℕ, _+_, _<_}
@@ -10,11 +10,11 @@ use lib.ListN.{length, getD, set, length-set}
 use Rattle.fifo.specs.Machine.{among, joined}
 use Rattle.fifo.specs.Walk.{In}
 use Rattle.fifo.proofs.Lists.{true-or-false, among-in, in-among, not-among, in-front, in-back, in-either, joined-waiting, joined-new}
+use Rattle.rules.specs.Sums.{add-value, above-budget, adjoin}
 use Rattle.reach.specs.Listing.{Met}
-use Rattle.reach.specs.Summing.{plus-value, above}
-use Rattle.reach.specs.Adjacent.{adjoin, adjoin-all, Adjoins}
+use Rattle.reach.specs.Adjacent.{Adjoins}
 use Rattle.reach.proofs.Listings.{met-says, met-more}
-use Rattle.reach.proofs.Sums.{plus-more}
+use Rattle.reach.proofs.Sums.{added-more}
 
 -- ---- one cell
 
@@ -28,14 +28,14 @@ module _ (distances : List Float) (budget : Float) (cells found : List ℕ) (v :
       kept true same = same
       kept false same = refl
 
-      was-listed : In v cells → cond (not (among v cells) && above distances budget v) (joined v found) found ≡ found
+      was-listed : In v cells → cond (not (among v cells) && above-budget distances budget v) (joined v found) found ≡ found
       was-listed i = rw (in-among v cells i)
 
-      was-found : In v found → cond (not (among v cells) && above distances budget v) (joined v found) found ≡ found
-      was-found i = kept (not (among v cells) && above distances budget v) (joined-waiting v found (in-among v found i))
+      was-found : In v found → cond (not (among v cells) && above-budget distances budget v) (joined v found) found ≡ found
+      was-found i = kept (not (among v cells) && above-budget distances budget v) (joined-waiting v found (in-among v found i))
 
   -- A cell within the budget is not added.
-  adjoin-within : above distances budget v ≡ false → adjoin distances budget cells found v ≡ found
+  adjoin-within : above-budget distances budget v ≡ false → adjoin distances budget cells found v ≡ found
   unfolding adjoin
   adjoin-within e = rw e (never (not (among v cells)))
     where
@@ -44,7 +44,7 @@ module _ (distances : List Float) (budget : Float) (cells found : List ℕ) (v :
       never false = refl
 
   -- Any other cell is added.
-  adjoin-new : among v (cells ++ found) ≡ false → above distances budget v ≡ true → adjoin distances budget cells found v ≡ found ++ v ∷ []
+  adjoin-new : among v (cells ++ found) ≡ false → above-budget distances budget v ≡ true → adjoin distances budget cells found v ≡ found ++ v ∷ []
   unfolding adjoin
   adjoin-new new beyond =
       let not-listed = not-among v cells (λ i. true-or-false (in-among v (cells ++ found) (in-front v cells found i)) new) in
@@ -59,17 +59,17 @@ module _ (values distances : List Float) (budget : Float) {v : ℕ} {met : List 
   pub met-before : eqb (getD met v 0) 0 ≡ false → Adjoins values distances budget (v ∷ []) met sum met sum
   met-before old = kept (λ cells found marks. adjoin-met distances budget cells found v (met-says marks v inside old))
 
-  pub within-budget : above distances budget v ≡ false → Adjoins values distances budget (v ∷ []) met sum met sum
+  pub within-budget : above-budget distances budget v ≡ false → Adjoins values distances budget (v ∷ []) met sum met sum
   within-budget e = kept (λ cells found marks. adjoin-within distances budget cells found v e)
 
   -- A cell that was not met and is above the budget is met, and its value added.
   pub added-new :
-      eqb (getD met v 0) 0 ≡ true → above distances budget v ≡ true → {sum′ : Float} → sum′ ≡ plus-value values sum v
+      eqb (getD met v 0) 0 ≡ true → above-budget distances budget v ≡ true → {sum′ : Float} → sum′ ≡ add-value values sum v
       → Adjoins values distances budget (v ∷ []) met sum (set met v 1) sum′
   added-new new beyond {sum′} means = record {
     adds = λ base cells found adding. rw (adjoin-new distances budget cells found v (met-says (adding .marks) v inside new) beyond) (record {
       marks = rw (← append-assoc cells found (v ∷ [])) (met-more (adding .marks) v inside);
-      added = means ∙ ap (λ s. plus-value values s v) (adding .added) ∙ sym (plus-more values base found v);
+      added = means ∙ ap (λ s. add-value values s v) (adding .added) ∙ sym (added-more values base found v);
     });
     same-length = length-set met v 1;
   }
@@ -87,6 +87,6 @@ module _ {values distances : List Float} {budget : Float} where
   adjoins-on {us} {vs} {met} {met′} {met″} {sum″ = sum″} first then = record {
     adds = λ base cells found adding.
         rw (foldl-append (adjoin distances budget cells) found us vs)
-        (rw (first .same-length) at (then .adds base cells (adjoin-all distances budget cells found us) (rw (first .same-length) (first .adds base cells found adding))));
+        (rw (first .same-length) at (then .adds base cells (foldl (adjoin distances budget cells) found us) (rw (first .same-length) (first .adds base cells found adding))));
     same-length = then .same-length ∙ first .same-length;
   }

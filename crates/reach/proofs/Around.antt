@@ -10,13 +10,13 @@ use Rattle.cells.proofs.NeighbourLists.{one-more-of}
 use Rattle.rules.specs.declared.Size.{Size}
 use Rattle.rules.specs.Sizes.{count}
 use Rattle.rules.specs.Cells.{neighbour, neighbours}
-use Rattle.rules.specs.Sums.{adjacent-offsets}
+use Rattle.rules.specs.Sums.{adjacent-offsets, adjoin, adjacent-cells}
 use Rattle.rules.proofs.Neighbours.{neighbour-inside}
 use Rattle.reach.specs.Listing.{Listing}
-use Rattle.reach.specs.Adjacent.{adjoin, adjoin-all, adjacent, Adding, Adjoins, Trying, Fitting, Beside, AddedAdjacent}
+use Rattle.reach.specs.Adjacent.{Adding, Adjoins, Trying, Fitting, Beside, AddedAdjacent}
 use Rattle.reach.proofs.Reading.{take-more}
 use Rattle.reach.proofs.Listings.{listing-cells}
-use Rattle.reach.proofs.Sums.{plus-none}
+use Rattle.reach.proofs.Sums.{added-none}
 use Rattle.reach.proofs.Adjoining.{adjoins-none, adjoins-on}
 
 -- ---- the table
@@ -83,15 +83,15 @@ beside-last size (w ∷ us) u =
 -- To try them all is to try those beside each cell in turn.
 in-turn :
     (size : Size) (distances : List Float) (budget : Float) (cells found us : List ℕ)
-    → foldl (λ found u. adjoin-all distances budget cells found (neighbours size u adjacent-offsets)) found us ≡ adjoin-all distances budget cells found (beside size us)
+    → foldl (λ found u. foldl (adjoin distances budget cells) found (neighbours size u adjacent-offsets)) found us ≡ foldl (adjoin distances budget cells) found (beside size us)
 unfolding beside
 in-turn size distances budget cells found [] = refl
 in-turn size distances budget cells found (u ∷ us) =
-    in-turn size distances budget cells (adjoin-all distances budget cells found (neighbours size u adjacent-offsets)) us
+    in-turn size distances budget cells (foldl (adjoin distances budget cells) found (neighbours size u adjacent-offsets)) us
     ∙ sym (foldl-append (adjoin distances budget cells) found (neighbours size u adjacent-offsets) (beside size us))
 
-adjacent-is : (size : Size) (distances : List Float) (budget : Float) (cells : List ℕ) → adjacent size distances budget cells ≡ adjoin-all distances budget cells [] (beside size cells)
-unfolding adjacent
+adjacent-is : (size : Size) (distances : List Float) (budget : Float) (cells : List ℕ) → adjacent-cells size distances budget cells ≡ foldl (adjoin distances budget cells) [] (beside size cells)
+unfolding adjacent-cells
 adjacent-is size distances budget cells = in-turn size distances budget cells [] cells
 
 module _ {values distances : List Float} {budget : Float} {met₀ : List ℕ} {sum₀ : Float} where
@@ -121,7 +121,7 @@ pub all-added :
     → AddedAdjacent size values distances budget sum (take entries listed) met′ sum′
 all-added {size} {values} {distances} {listed} {entries} {met} {met′} budget sum {sum′} start tried =
     let cells = take entries listed in
-    let begun : Adding (count size) values sum cells [] met sum = record { marks = rw (append-nil cells) (start .marks); added = sym (plus-none values sum) } in
+    let begun : Adding (count size) values sum cells [] met sum = record { marks = rw (append-nil cells) (start .marks); added = sym (added-none values sum) } in
     let done = tried .adds sum cells [] (rw (start .fits .met-long) begun) in
     record {
       added = rw (adjacent-is size distances budget cells) (done .added);

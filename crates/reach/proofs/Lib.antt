@@ -4,5 +4,4 @@ pub mod Listings
 pub mod Sums
 pub mod Adjoining
 pub mod Around
-pub mod Rules
 pub mod Decided

@@ -1,46 +1,26 @@
--- The cells beside the listed ones, over plain lists. Definitions only.
-use mathlib.Core.Bool.{not, cond, _&&_}
-use mathlib.Core.List.{List, [], _++_, foldl}
+-- What the functions for the cells beside the listed ones are asked and promise. Definitions only.
+use mathlib.Core.List.{List, _++_, foldl}
 use mathlib.Core.Path.{_≡_}
 use Prim.Native.Nat.{ℕ, _<_}
 use lib.Dec.{T}
 use lib.Ieee.{Float}
 use lib.ListN.{length, take}
-use Rattle.fifo.specs.Machine.{among, joined}
 use Rattle.fifo.specs.Walk.{In}
 use Rattle.rules.specs.declared.Size.{Size}
 use Rattle.rules.specs.Sizes.{in-bounds, count}
-use Rattle.rules.specs.Cells.{neighbours}
-use Rattle.rules.specs.Sums.{adjacent-offsets}
+use Rattle.rules.specs.Sums.{add-values, adjoin, adjacent-cells}
 use Rattle.reach.specs.Listing.{Met, Cells}
-use Rattle.reach.specs.Summing.{plus-values, above}
-
--- ---- which cells are added
-
--- A cell not listed, with distance above the budget, once.
-unfoldable pub adjoin : List Float → Float → List ℕ → List ℕ → ℕ → List ℕ
-adjoin distances budget cells found v = cond (not (among v cells) && above distances budget v) (joined v found) found
-
--- Those of a list.
-abbrev pub adjoin-all : List Float → Float → List ℕ → List ℕ → List ℕ → List ℕ
-adjoin-all distances budget cells found vs = foldl (adjoin distances budget cells) found vs
-
--- For each listed cell, above, below, left, right.
-unfoldable pub adjacent : Size → List Float → Float → List ℕ → List ℕ
-adjacent size distances budget cells = foldl (λ found u. adjoin-all distances budget cells found (neighbours size u adjacent-offsets)) [] cells
-
--- ---- what the code's functions are asked and promise
 
 -- The cells found so far are met, as are the listed ones, and their values were added to `base`.
 pub record Adding (n : ℕ) (values : List Float) (base : Float) (cells found met : List ℕ) (sum : Float) : Type 0 where
   pub marks : Met n met (cells ++ found)
-  pub added : sum ≡ plus-values values base found
+  pub added : sum ≡ add-values values base found
 
 -- The cells of a list are tried in order, whatever cells are listed and found so far.
 pub record Adjoins (values distances : List Float) (budget : Float) (vs met : List ℕ) (sum : Float) (met′ : List ℕ) (sum′ : Float) : Type 0 where
   pub adds :
       (base : Float) (cells found : List ℕ) → Adding (length met) values base cells found met sum
-      → Adding (length met) values base cells (adjoin-all distances budget cells found vs) met′ sum′
+      → Adding (length met) values base cells (foldl (adjoin distances budget cells) found vs) met′ sum′
   pub same-length : length met′ ≡ length met
 
 -- The slices have a value, a distance and a mark for each cell, and those of a list are cells.
@@ -69,5 +49,5 @@ pub record Beside (size : Size) (values distances : List Float) (listed : List �
 
 -- They are added, and met.
 pub record AddedAdjacent (size : Size) (values distances : List Float) (budget sum : Float) (cells met′ : List ℕ) (sum′ : Float) : Type 0 where
-  pub added : sum′ ≡ plus-values values sum (adjacent size distances budget cells)
-  pub marks : Met (count size) met′ (cells ++ adjacent size distances budget cells)
+  pub added : sum′ ≡ add-values values sum (adjacent-cells size distances budget cells)
+  pub marks : Met (count size) met′ (cells ++ adjacent-cells size distances budget cells)

@@ -3,7 +3,7 @@
 // The cells are listed once each, in order of first entry (`list_cell`). Their values with data are
 // added in that order (`add_listed`), a distance above the budget is noticed (`is_over_budget`), and
 // the cells beside them that are above the budget are added once each (`add_adjacent`). The contracts
-// speak of plain lists; laws in proofs/ say that they are the sums of the rules (proofs/Rules.antt).
+// cite the rules of search 7.
 mod adjacent;
 mod listing;
 mod summing;

@@ -5,13 +5,13 @@ ghost use Prim.Native.Nat.{_<_};
 ghost use lib.ListN.{length, take};
 ghost use Rattle.binary32.specs.Numbers.{plus-zero};
 ghost use Rattle.rules.specs.Sizes.{any};
+ghost use Rattle.rules.specs.Sums.{add-value, add-values, above-budget};
 ghost use Rattle.reach.specs.Listing.{Cells};
-ghost use Rattle.reach.specs.Summing.{plus-value, plus-values, above};
 
 // Adds a cell's value, if it has data.
 pub fn add_value(values: &[f32], cell: u32, sum: f32) -> f32
     requires { ⌜ cell < length (now values) ⌝ }
-    ensures { λ r. ⌜ r ≡ plus-value (now (values .entry)) sum cell ⌝ }
+    ensures { λ r. ⌜ r ≡ add-value (now (values .entry)) sum cell ⌝ }
 {
     let at = cell as usize;
     let value = values[at];
@@ -24,7 +24,7 @@ pub fn add_value(values: &[f32], cell: u32, sum: f32) -> f32
 // Adds the listed cells' values from +0.0, in list order.
 pub fn add_listed(values: &[f32], listed: &[u32], count: usize) -> f32
     requires { ⌜ Cells (length (now values)) (now listed) count ⌝ }
-    ensures { λ r. ⌜ r ≡ plus-values (now (values .entry)) plus-zero (take count (now (listed .entry))) ⌝ }
+    ensures { λ r. ⌜ r ≡ add-values (now (values .entry)) plus-zero (take count (now (listed .entry))) ⌝ }
 {
     let mut sum: f32 = 0.0;
     for k in 0..count {
@@ -36,7 +36,7 @@ pub fn add_listed(values: &[f32], listed: &[u32], count: usize) -> f32
 // Whether a cell's distance is above the budget.
 pub fn is_above(distances: &[f32], cell: u32, budget: f32) -> bool
     requires { ⌜ cell < length (now distances) ⌝ }
-    ensures { λ r. ⌜ r ≡ above (now (distances .entry)) budget cell ⌝ }
+    ensures { λ r. ⌜ r ≡ above-budget (now (distances .entry)) budget cell ⌝ }
 {
     let at = cell as usize;
     distances[at] > budget
@@ -45,7 +45,7 @@ pub fn is_above(distances: &[f32], cell: u32, budget: f32) -> bool
 // Whether a listed cell's distance is above the budget.
 pub fn is_over_budget(distances: &[f32], listed: &[u32], count: usize, budget: f32) -> bool
     requires { ⌜ Cells (length (now distances)) (now listed) count ⌝ }
-    ensures { λ r. ⌜ r ≡ any (above (now (distances .entry)) budget) (take count (now (listed .entry))) ⌝ }
+    ensures { λ r. ⌜ r ≡ any (above-budget (now (distances .entry)) budget) (take count (now (listed .entry))) ⌝ }
 {
     for k in 0..count {
         if is_above(distances, listed[k], budget) {

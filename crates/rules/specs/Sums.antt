@@ -5,7 +5,8 @@ use Prim.Native.Nat.{ℕ, _+_, _*_, min}
 use lib.Dec.{eqb}
 use lib.IntN.{ℤ, pos, negsuc}
 use lib.ListN.{getD, set, length, replicate}
-use lib.Ieee.{Float, binary32, add, mul, lt, le, eq}
+use lib.Ieee.{Float, nan, binary32, add, mul, lt, le, eq}
+use Rattle.binary32.specs.Nodata.{nodata}
 use Rattle.fifo.specs.Machine.{Net, State, among, joined, passing, label, finish, takes-of, trace, initial}
 use Rattle.binary32.specs.Numbers.{plus-zero, one}
 use Rattle.rules.specs.Numbers.{infinity, quarter-of-largest}
@@ -46,31 +47,39 @@ runs-7 mask times = map (run-of (from-mask-cell times)) (passing (target mask) 0
 abbrev pub listed : Grid Float → Run → List ℕ
 listed times run = cond (has-data times (run .from)) (run .ends .entered) (run .from ∷ [])
 
--- The cell's distance at the end.
-abbrev pub distance-at : Run → ℕ → Float
-distance-at run c = getD (run .ends .labels) c infinity
+-- A value with data is added. The values, and below the distances at the end, are lists with an entry for each cell.
+abbrev pub add-value : List Float → Float → ℕ → Float
+add-value values sum c = cond (nodata (getD values c nan)) sum (add binary32 sum (getD values c nan))
 
 -- Values with data are added in list order.
-unfoldable pub add-values : Grid Float → Float → List ℕ → Float
-add-values values sum cells = foldl (λ sum c. cond (has-data values c) (add binary32 sum (float values c)) sum) sum cells
+unfoldable pub add-values : List Float → Float → List ℕ → Float
+add-values values sum cells = foldl (add-value values) sum cells
+
+-- A cell's distance is above the budget.
+abbrev pub above-budget : List Float → Float → ℕ → Bool
+above-budget distances budget c = lt budget (getD distances c infinity)
 
 -- Above, below, left, right.
 abbrev pub adjacent-offsets : List (List ℤ)
 adjacent-offsets = (negsuc 0 ∷ pos 0 ∷ []) ∷ (pos 1 ∷ pos 0 ∷ []) ∷ (pos 0 ∷ negsuc 0 ∷ []) ∷ (pos 0 ∷ pos 1 ∷ []) ∷ []
 
 -- A cell not listed, with distance above the budget, once.
-unfoldable pub adjoin : Grid Float → Float → Run → List ℕ → ℕ → List ℕ
-adjoin times budget run found v = cond (not (among v (listed times run)) && lt budget (distance-at run v)) (joined v found) found
+unfoldable pub adjoin : List Float → Float → List ℕ → List ℕ → ℕ → List ℕ
+adjoin distances budget cells found v = cond (not (among v cells) && above-budget distances budget v) (joined v found) found
 
 -- For each listed cell, above, below, left, right.
-unfoldable pub adjacent-cells : Grid Float → Float → Run → List ℕ
-adjacent-cells times budget run = foldl (λ found u. foldl (adjoin times budget run) found (neighbours (times .size) u adjacent-offsets)) [] (listed times run)
+unfoldable pub adjacent-cells : Size → List Float → Float → List ℕ → List ℕ
+adjacent-cells size distances budget cells = foldl (λ found u. foldl (adjoin distances budget cells) found (neighbours size u adjacent-offsets)) [] cells
 
--- The sum of a mask cell, from +0.0.
+-- The listed cells' values from +0.0; with adjacent, then those of the cells beside them.
+unfoldable pub sum-listed : Size → List Float → List Float → Float → Bool → List ℕ → Float
+sum-listed size values distances budget adjacent cells =
+    let sum = add-values values plus-zero cells in
+    cond adjacent (add-values values sum (adjacent-cells size distances budget cells)) sum
+
+-- The sum of a mask cell, over its list.
 unfoldable pub sum-of : Grid Float → Grid Float → Float → Bool → Run → Float
-sum-of times values budget adjacent run =
-    let sum = add-values values plus-zero (listed times run) in
-    cond adjacent (add-values values sum (adjacent-cells times budget run)) sum
+sum-of times values budget adjacent run = sum-listed (times .size) (values .cells) (run .ends .labels) budget adjacent (listed times run)
 
 -- Unselected cells hold 0.
 unfoldable pub sums : Grid Float → Grid Float → Float → Bool → List Run → List Float
@@ -84,7 +93,7 @@ refusals-7 mask times values budget lent = first-that-holds (
 
 -- 7: a cell reached from a mask cell has distance above the budget, with that mask cell's index, first in row order.
 abbrev pub over-budget : Grid Float → Float → Run → Bool × Refusal
-over-budget times budget run = (any (λ c. lt budget (distance-at run c)) (listed times run), number-at 7 (run .from))
+over-budget times budget run = (any (above-budget (run .ends .labels) budget) (listed times run), number-at 7 (run .from))
 
 unfoldable pub refusal-7 : Grid Float → Float → List Run → Judged
 refusal-7 times budget runs = first-that-holds (map (over-budget times budget) runs)

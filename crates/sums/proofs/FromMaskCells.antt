@@ -10,7 +10,7 @@ use Rattle.fifo.specs.Machine.{joined, finish}
 use Rattle.fifo.proofs.Entries.{entered-as-taken}
 use Rattle.rules.specs.declared.Size.{Size}
 use Rattle.rules.specs.Sizes.{Grid, grid, any, count}
-use Rattle.rules.specs.Sums.{from-mask-cell, listed, sum-of, add-values, adjacent-cells}
+use Rattle.rules.specs.Sums.{from-mask-cell, listed, add-values, above-budget, adjacent-cells, sum-listed, sum-of}
 use Rattle.rules.proofs.Listed.{listed-with-start}
 use Rattle.spread.specs.declared.search.Rule.the-variants.{FromMaskCell}
 use Rattle.spread.specs.declared.search.Search.{Search}
@@ -23,11 +23,9 @@ use Rattle.spread.specs.Promise.{grids, Spreads}
 use Rattle.spread.proofs.Running.{begun-ready, begun-runs}
 use Rattle.spread.proofs.Agrees.{mask-cell-agrees}
 use Rattle.reach.specs.Listing.{Listing, Joining, Joined, Cells}
-use Rattle.reach.specs.Summing.{plus-values, above}
-use Rattle.reach.specs.Adjacent.{adjacent, Beside, AddedAdjacent}
+use Rattle.reach.specs.Adjacent.{Beside, AddedAdjacent}
 use Rattle.reach.proofs.Listings.{listing-none, joining, listing-joined, listing-cells}
 use Rattle.reach.proofs.Around.{listing-beside}
-use Rattle.reach.proofs.Rules.{values-are, adjacent-are}
 use Rattle.sums.specs.declared.listing.Reached.{Reached}
 use Rattle.sums.specs.Listed.{each-once, Lists, ListedAll}
 use Rattle.sums.specs.FromMask.{Reaching, run-from, ReachedFrom, SumReached, Summing, SummedFrom}
@@ -107,21 +105,20 @@ module _ (size : Size) (times : List Float) (start : ℕ) (limit : Float) where
 -- ---- the sum
 
 module _ {size : Size} {values distances : List Float} {cells : List ℕ} {limit : Float} {alone : Float} where
-  pub sum-without : alone ≡ plus-values values plus-zero cells → {met : List ℕ} {include : Bool} → include ≡ false → length met ≡ count size → SumReached size values distances cells limit include met alone
-  sum-without sum is long = record {
-    met-length = long;
-    sum-is = sum ∙ ap (λ b. cond b (plus-values values (plus-values values plus-zero cells) (adjacent size distances limit cells)) (plus-values values plus-zero cells)) (sym is);
-  }
+  pub sum-without : alone ≡ add-values values plus-zero cells → {met : List ℕ} {include : Bool} → include ≡ false → length met ≡ count size → SumReached size values distances cells limit include met alone
+  unfolding sum-listed
+  sum-without sum is long = record { met-length = long; sum-is = sum ∙ sym (ap (λ b. sum-listed size values distances limit b cells) is) }
 
   pub sum-with :
-      alone ≡ plus-values values plus-zero cells → {met′ : List ℕ} {include : Bool} → include ≡ true → {sum : Float} → AddedAdjacent size values distances limit alone cells met′ sum
+      alone ≡ add-values values plus-zero cells → {met′ : List ℕ} {include : Bool} → include ≡ true → {sum : Float} → AddedAdjacent size values distances limit alone cells met′ sum
       → SumReached size values distances cells limit include met′ sum
+  unfolding sum-listed
   sum-with reached is added = record {
     met-length = added .marks .long;
     sum-is =
         added .added
-        ∙ ap (λ s. plus-values values s (adjacent size distances limit cells)) reached
-        ∙ ap (λ b. cond b (plus-values values (plus-values values plus-zero cells) (adjacent size distances limit cells)) (plus-values values plus-zero cells)) (sym is);
+        ∙ ap (λ s. add-values values s (adjacent-cells size distances limit cells)) reached
+        ∙ sym (ap (λ b. sum-listed size values distances limit b cells) is);
   }
 
 pub beside-cells : {size : Size} {values distances : List Float} {listed : List ℕ} {entries : ℕ} {met : List ℕ} → Beside size values distances listed entries met → Cells (length values) listed entries
@@ -147,7 +144,7 @@ module _
 
     -- The listed cells are the rules' list, and the distances are the labels at the end.
     pub summed-from :
-        {limit : Float} {include over : Bool} {sum : Float} {met₂ : List ℕ} → over ≡ any (above distances₁ limit) (take (r .count) listed₁)
+        {limit : Float} {include over : Bool} {sum : Float} {met₂ : List ℕ} → over ≡ any (above-budget distances₁ limit) (take (r .count) listed₁)
         → SumReached size values distances₁ (take (r .count) listed₁) limit include met₂ sum
         → SummedFrom size times values limit include start distances₁ marks₁ listed₁ met₂ queue₁ (record { takes = r .takes; over = over; sum = sum })
     unfolding sum-of
@@ -164,13 +161,9 @@ module _
             queue-length = reached .lengths .queue-length;
           };
           counted = reached .counted;
-          over-is = over-is ∙ ap (λ l. any (above distances₁ limit) l) cells ∙ ap (λ d. any (above d limit) (listed (grid size times) run)) labels;
+          over-is = over-is ∙ ap (λ l. any (above-budget distances₁ limit) l) cells ∙ ap (λ d. any (above-budget d limit) (listed (grid size times) run)) labels;
           sum-is =
               summed .sum-is
-              ∙ ap (λ l. let alone = plus-values values plus-zero l in cond include (plus-values values alone (adjacent size distances₁ limit l)) alone) cells
-              ∙ ap (λ d. let alone = plus-values values plus-zero (listed (grid size times) run) in cond include (plus-values values alone (adjacent size d limit (listed (grid size times) run))) alone) labels
-              ∙ ap (λ alone. cond include (plus-values values alone (adjacent size (run .ends .labels) limit (listed (grid size times) run))) alone) (values-are (grid size values) plus-zero (listed (grid size times) run))
-              ∙ ap (λ more. cond include more (add-values (grid size values) plus-zero (listed (grid size times) run)))
-              (ap (plus-values values (add-values (grid size values) plus-zero (listed (grid size times) run))) (adjacent-are (grid size times) limit run)
-              ∙ values-are (grid size values) (add-values (grid size values) plus-zero (listed (grid size times) run)) (adjacent-cells (grid size times) limit run));
+              ∙ ap (sum-listed size values distances₁ limit include) cells
+              ∙ ap (λ d. sum-listed size values d limit include (listed (grid size times) run)) labels;
         }

@@ -1,19 +1,16 @@
 -- The search from one mask cell: what it asks and promises. Definitions only.
-use mathlib.Core.Bool.{Bool, cond}
+use mathlib.Core.Bool.{Bool}
 use mathlib.Core.List.{List}
 use mathlib.Core.Path.{_≡_}
 use Prim.Native.Nat.{ℕ, suc, _*_, _<_}
 use lib.Dec.{T}
 use lib.Ieee.{Float}
 use lib.ListN.{length}
-use Rattle.binary32.specs.Numbers.{plus-zero}
 use Rattle.fifo.specs.Simulation.{Within}
 use Rattle.rules.specs.declared.Size.{Size}
 use Rattle.rules.specs.Sizes.{grid, in-bounds, count}
-use Rattle.rules.specs.Sums.{Run, run-of, from-mask-cell, listed, over-budget, sum-of}
+use Rattle.rules.specs.Sums.{Run, run-of, from-mask-cell, listed, sum-listed, over-budget, sum-of}
 use Rattle.reach.specs.Listing.{Listing}
-use Rattle.reach.specs.Summing.{plus-values}
-use Rattle.reach.specs.Adjacent.{adjacent}
 use Rattle.sums.specs.declared.listing.Reached.{Reached}
 use Rattle.sums.specs.declared.mask_cell.MaskSum.{MaskSum}
 
@@ -47,12 +44,10 @@ pub record ReachedFrom (size : Size) (times : List Float) (start : ℕ) (distanc
   pub lists : Listing (count size) met′ listed′ (r .count) (listed (grid size times) (run-from size times start))
   pub counted : r .takes ≡ run-from size times start .takes
 
--- The sum over plain lists: the cells' values, and those of the cells beside them if they are included.
+-- The sum of the listed cells, and of the cells beside them if they are included.
 pub record SumReached (size : Size) (values distances : List Float) (cells : List ℕ) (limit : Float) (include : Bool) (met′ : List ℕ) (r : Float) : Type 0 where
   pub met-length : length met′ ≡ count size
-  pub sum-is :
-      let alone = plus-values values plus-zero cells in
-      r ≡ cond include (plus-values values alone (adjacent size distances limit cells)) alone
+  pub sum-is : r ≡ sum-listed size values distances limit include cells
 
 -- The values are lent too.
 pub record Summing (size : Size) (times values : List Float) (start : ℕ) (distances : List Float) (marks listed met queue : List ℕ) : Type 0 where

@@ -4,19 +4,19 @@ use Prim.Native.Nat.{_≤_, _-_}
 use native.Mathlib.Omega.{arith}
 use lib.ListN.{take}
 use Rattle.binary32.specs.Numbers.{plus-zero}
-use Rattle.reach.specs.Summing.{plus-values}
-use Rattle.reach.proofs.Sums.{plus-none, plus-entry}
+use Rattle.rules.specs.Sums.{add-values}
+use Rattle.reach.proofs.Sums.{added-none, added-entry}
 use Rattle.reach.proofs.summing.add_listed.Statement.{statement}
 use Rattle.reach.proofs.summing.add_listed.Tie as tie
 
 abbrev Inv-loop : tie.InvT-loop
-Inv-loop values listed count sum₀ k₀ sum k = (k ≤ count) × (sum ≡ plus-values values plus-zero (take k listed))
+Inv-loop values listed count sum₀ k₀ sum k = (k ≤ count) × (sum ≡ add-values values plus-zero (take k listed))
 
 abbrev μ-loop : tie.MeasureT-loop
 μ-loop values listed count sum₀ k₀ sum k = count - k
 
 loop-holds : tie.Need-loop-holds Inv-loop μ-loop
-loop-holds c = (omega arith, sym (plus-none (c .before .before .args .values .now) plus-zero))
+loop-holds c = (omega arith, sym (added-none (c .before .before .args .values .now) plus-zero))
 
 mul-add-value : tie.Need-mul-add-value Inv-loop μ-loop
 mul-add-value c = let few = c .before .before .before .before .pre .few in omega arith
@@ -38,7 +38,7 @@ loop-again c =
     let s = c .before .before .before .before .before .before in
     let few = s .pre .few in
     let at = c .before .before .before .loop in
-    (omega arith, plus-entry (s .args .values .now) plus-zero (s .args .listed .now) (at .k) (omega arith) (at .inv .1) (c .add-value .ensures))
+    (omega arith, added-entry (s .args .values .now) plus-zero (s .args .listed .now) (at .k) (omega arith) (at .inv .1) (c .add-value .ensures))
 
 returns : tie.Need-returns Inv-loop μ-loop
 returns c =

@@ -6,18 +6,18 @@ use native.Mathlib.Omega.{arith}
 use lib.ListN.{take}
 use Rattle.rules.specs.Sizes.{any}
 use Rattle.rules.proofs.Any.{any-none, any-more, any-passes}
-use Rattle.reach.specs.Summing.{above}
+use Rattle.rules.specs.Sums.{above-budget}
 use Rattle.reach.proofs.summing.is_over_budget.Statement.{statement}
 use Rattle.reach.proofs.summing.is_over_budget.Tie as tie
 
 abbrev Inv-loop : tie.InvT-loop
-Inv-loop distances listed count budget k₀ k = (k ≤ count) × (any (above distances budget) (take k listed) ≡ false)
+Inv-loop distances listed count budget k₀ k = (k ≤ count) × (any (above-budget distances budget) (take k listed) ≡ false)
 
 abbrev μ-loop : tie.MeasureT-loop
 μ-loop distances listed count budget k₀ k = count - k
 
 loop-holds : tie.Need-loop-holds Inv-loop μ-loop
-loop-holds c = let a = c .before .before .args in (omega arith, any-none (above (a .distances .now) (a .budget)))
+loop-holds c = let a = c .before .before .args in (omega arith, any-none (above-budget (a .distances .now) (a .budget)))
 
 mul-is-above : tie.Need-mul-is-above Inv-loop μ-loop
 mul-is-above c = let few = c .before .before .before .before .pre .few in omega arith
@@ -33,7 +33,7 @@ returns c =
     let s = c .before .before .before .before .before .before .before in
     let k = c .before .before .before .before .loop .k in
     let below = c .before .before .before .loop-test .taken in
-    sym (any-passes (above (s .args .distances .now) (s .args .budget)) 0 (s .args .count) k (s .args .listed .now) below (s .pre .few) (sym (c .before .is-above .ensures) ∙ c .if1 .taken))
+    sym (any-passes (above-budget (s .args .distances .now) (s .args .budget)) 0 (s .args .count) k (s .args .listed .now) below (s .pre .few) (sym (c .before .is-above .ensures) ∙ c .if1 .taken))
 
 add-k : tie.Need-add-k Inv-loop μ-loop
 add-k c = let few = c .before .before .before .before .before .before .before .pre .few in omega arith
@@ -46,7 +46,7 @@ loop-again c =
     let s = c .before .before .before .before .before .before .before in
     let few = s .pre .few in
     let at = c .before .before .before .before .loop in
-    (omega arith, any-more (above (s .args .distances .now) (s .args .budget)) 0 (at .k) (s .args .listed .now) (omega arith) (at .inv .1) (sym (c .before .is-above .ensures) ∙ c .if1 .left))
+    (omega arith, any-more (above-budget (s .args .distances .now) (s .args .budget)) 0 (at .k) (s .args .listed .now) (omega arith) (at .inv .1) (sym (c .before .is-above .ensures) ∙ c .if1 .left))
 
 returns-2 : tie.Need-returns-2 Inv-loop μ-loop
 returns-2 c =
