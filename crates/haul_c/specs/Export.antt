@@ -11,7 +11,7 @@ use Rattle.rules.specs.declared.Size.{Size}
 use Rattle.rules.specs.declared.Spacing.{Spacing}
 use Rattle.rules.specs.declared.BarrierDiagonals.{BarrierDiagonals}
 use Rattle.rules.specs.declared.BarrierDiagonals.the-variants.{Include, Exclude}
-use Rattle.rules.specs.Sizes.{Refusal, number, number-at}
+use Rattle.rules.specs.Sizes.{number, number-at}
 use Rattle.calls.specs.declared.answer.Answer.{Answer}
 use Rattle.calls.specs.Answer.{Told, refusal, takes, told}
 use Rattle.calls.specs.Promise.{Slice}

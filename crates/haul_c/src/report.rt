@@ -3,7 +3,6 @@ use calls::Answer;
 use calls::Refusal;
 ghost use Rattle.calls.specs.Answer.{told};
 ghost use Rattle.haul_c.specs.Export.{Reported};
-ghost use Rattle.calls.specs.Promise.{slice};
 
 // Writes the takes or the index, where there is one, and gives the status.
 pub fn report(answer: Answer, takes: &mut u64, index: &mut u32) -> u32

@@ -1,13 +1,7 @@
--- `by_distance::haul_distance_with_obstacles` meets its contract: it reports what the search answered. Assumes nothing.
+-- `by_distance::haul_distance_with_obstacles` meets its contract: it reports what the search answered. A side that is passed on
+-- is read as it was given. Assumes nothing.
 use borrow.Author.Needs.{needs}
-use mathlib.Core.Path.{subst}
-use denote.Ref.{now}
-use Rattle.calls.specs.Promise.{slice}
-use Rattle.binary32.specs.Numbers.{plus-zero}
-use Rattle.rules.specs.declared.BarrierDiagonals.{BarrierDiagonals}
-use Rattle.distances.specs.Promise.{DistanceWithObstacles}
-use Rattle.haul_c.specs.Export.{size, spacing}
-use Rattle.haul_c.proofs.Read.{read, of-size}
+use mir.Facts.{toZ-ofZ}
 use Rattle.haul_c.proofs.by_distance.haul_distance_with_obstacles.Statement.{statement}
 use Rattle.haul_c.proofs.by_distance.haul_distance_with_obstacles.Tie as tie
 
@@ -32,17 +26,11 @@ same-length-3 c = search needs
 returns : tie.Need-returns
 returns c =
     let called = c .before .before .before .before .before .before .before .before .before in
-    let start = called .before .before .before .before .before .before .before .before .before .before in
-    let args = start .args in
-    let last = called .distance-with-obstacles .last in
+    let fits = called .before .before .before .before .before .before .before .before .before .before .fits in
     let way = called .before .before .before .before .diagonals-of in
     record {
       answer = called .distance-with-obstacles .result;
-      promised =
-          subst (λ (diagonals : BarrierDiagonals). DistanceWithObstacles (size (args .rows) (args .columns)) (now (args .targets)) (size (args .obstacle-rows) (args .obstacle-columns)) (now (args .obstacles)) (spacing (args .cell-size) plus-zero) diagonals (slice (now (args .answer)) (last .1 .1 .1 .1 .1 .1 .0)) (slice (now (args .marks)) (last .1 .1 .1 .1 .1 .1 .1 .0)) (slice (now (args .queue)) (last .1 .1 .1 .1 .1 .1 .1 .1 .0)) (called .distance-with-obstacles .result)) (way .ensures)
-          (of-size (λ given. DistanceWithObstacles given (now (args .targets)) (size (args .obstacle-rows) (args .obstacle-columns)) (now (args .obstacles)) (spacing (args .cell-size) plus-zero) (way .result) (slice (now (args .answer)) (last .1 .1 .1 .1 .1 .1 .0)) (slice (now (args .marks)) (last .1 .1 .1 .1 .1 .1 .1 .0)) (slice (now (args .queue)) (last .1 .1 .1 .1 .1 .1 .1 .1 .0)) (called .distance-with-obstacles .result)) (start .fits .rows) (start .fits .columns)
-          (of-size (λ given. DistanceWithObstacles (size (read (args .rows)) (read (args .columns))) (now (args .targets)) given (now (args .obstacles)) (spacing (args .cell-size) plus-zero) (way .result) (slice (now (args .answer)) (last .1 .1 .1 .1 .1 .1 .0)) (slice (now (args .marks)) (last .1 .1 .1 .1 .1 .1 .1 .0)) (slice (now (args .queue)) (last .1 .1 .1 .1 .1 .1 .1 .1 .0)) (called .distance-with-obstacles .result)) (start .fits .obstacle-rows) (start .fits .obstacle-columns)
-          (called .distance-with-obstacles .ensures)));
+      promised = rw (toZ-ofZ (fits .rows), toZ-ofZ (fits .columns), toZ-ofZ (fits .obstacle-rows), toZ-ofZ (fits .obstacle-columns), way .ensures) at (called .distance-with-obstacles .ensures);
       reported = c .report .ensures;
     }
 

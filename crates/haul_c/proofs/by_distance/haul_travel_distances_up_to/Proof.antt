@@ -1,10 +1,7 @@
--- `by_distance::haul_travel_distances_up_to` meets its contract: it reports what the search answered. Assumes nothing.
+-- `by_distance::haul_travel_distances_up_to` meets its contract: it reports what the search answered. A side that is passed on
+-- is read as it was given. Assumes nothing.
 use borrow.Author.Needs.{needs}
-use denote.Ref.{now}
-use Rattle.calls.specs.Promise.{slice}
-use Rattle.distances.specs.Promise.{TravelDistancesUpTo}
-use Rattle.haul_c.specs.Export.{size}
-use Rattle.haul_c.proofs.Read.{read, of-size}
+use mir.Facts.{toZ-ofZ}
 use Rattle.haul_c.proofs.by_distance.haul_travel_distances_up_to.Statement.{statement}
 use Rattle.haul_c.proofs.by_distance.haul_travel_distances_up_to.Tie as tie
 
@@ -26,15 +23,10 @@ same-length-3 c = search needs
 returns : tie.Need-returns
 returns c =
     let called = c .before .before .before .before .before .before .before .before .before in
-    let start = called .before .before .before .before .before .before .before .before .before in
-    let args = start .args in
-    let last = called .travel-distances-up-to .last in
+    let fits = called .before .before .before .before .before .before .before .before .before .fits in
     record {
       answer = called .travel-distances-up-to .result;
-      promised =
-          of-size (λ given. TravelDistancesUpTo given (now (args .targets)) (size (args .time-rows) (args .time-columns)) (now (args .times)) (args .limit) (slice (now (args .answer)) (last .1 .1 .1 .1 .1 .0)) (slice (now (args .marks)) (last .1 .1 .1 .1 .1 .1 .0)) (slice (now (args .queue)) (last .1 .1 .1 .1 .1 .1 .1 .0)) (called .travel-distances-up-to .result)) (start .fits .rows) (start .fits .columns)
-          (of-size (λ given. TravelDistancesUpTo (size (read (args .rows)) (read (args .columns))) (now (args .targets)) given (now (args .times)) (args .limit) (slice (now (args .answer)) (last .1 .1 .1 .1 .1 .0)) (slice (now (args .marks)) (last .1 .1 .1 .1 .1 .1 .0)) (slice (now (args .queue)) (last .1 .1 .1 .1 .1 .1 .1 .0)) (called .travel-distances-up-to .result)) (start .fits .time-rows) (start .fits .time-columns)
-          (called .travel-distances-up-to .ensures));
+      promised = rw (toZ-ofZ (fits .rows), toZ-ofZ (fits .columns), toZ-ofZ (fits .time-rows), toZ-ofZ (fits .time-columns)) at (called .travel-distances-up-to .ensures);
       reported = c .report .ensures;
     }
 

@@ -1,10 +1,7 @@
--- `by_sum::haul_sum_targets_within_travel_distance` meets its contract: it reports what the search answered. Assumes nothing.
+-- `by_sum::haul_sum_targets_within_travel_distance` meets its contract: it reports what the search answered. A side that is passed on
+-- is read as it was given. Assumes nothing.
 use borrow.Author.Needs.{needs}
-use denote.Ref.{now}
-use Rattle.calls.specs.Promise.{slice}
-use Rattle.sums.specs.Promise.{SumTargetsWithinTravelDistance}
-use Rattle.haul_c.specs.Export.{size}
-use Rattle.haul_c.proofs.Read.{read, of-size}
+use mir.Facts.{toZ-ofZ}
 use Rattle.haul_c.proofs.by_sum.haul_sum_targets_within_travel_distance.Statement.{statement}
 use Rattle.haul_c.proofs.by_sum.haul_sum_targets_within_travel_distance.Tie as tie
 
@@ -32,15 +29,10 @@ same-length-5 c = search needs
 returns : tie.Need-returns
 returns c =
     let called = c .before .before .before .before .before .before .before .before .before .before .before .before .before in
-    let start = called .before .before .before .before .before .before .before .before .before .before .before .before .before in
-    let args = start .args in
-    let last = called .sum-targets-within-travel-distance .last in
+    let fits = called .before .before .before .before .before .before .before .before .before .before .before .before .before .fits in
     record {
       answer = called .sum-targets-within-travel-distance .result;
-      promised =
-          of-size (λ given. SumTargetsWithinTravelDistance given (now (args .times)) (size (args .amount-rows) (args .amount-columns)) (now (args .amounts)) (args .limit) (slice (now (args .answer)) (last .1 .1 .1 .1 .1 .0)) (slice (now (args .distances)) (last .1 .1 .1 .1 .1 .1 .0)) (slice (now (args .marks)) (last .1 .1 .1 .1 .1 .1 .1 .0)) (slice (now (args .added)) (last .1 .1 .1 .1 .1 .1 .1 .1 .0)) (slice (now (args .queue)) (last .1 .1 .1 .1 .1 .1 .1 .1 .1 .0)) (called .sum-targets-within-travel-distance .result)) (start .fits .rows) (start .fits .columns)
-          (of-size (λ given. SumTargetsWithinTravelDistance (size (read (args .rows)) (read (args .columns))) (now (args .times)) given (now (args .amounts)) (args .limit) (slice (now (args .answer)) (last .1 .1 .1 .1 .1 .0)) (slice (now (args .distances)) (last .1 .1 .1 .1 .1 .1 .0)) (slice (now (args .marks)) (last .1 .1 .1 .1 .1 .1 .1 .0)) (slice (now (args .added)) (last .1 .1 .1 .1 .1 .1 .1 .1 .0)) (slice (now (args .queue)) (last .1 .1 .1 .1 .1 .1 .1 .1 .1 .0)) (called .sum-targets-within-travel-distance .result)) (start .fits .amount-rows) (start .fits .amount-columns)
-          (called .sum-targets-within-travel-distance .ensures));
+      promised = rw (toZ-ofZ (fits .rows), toZ-ofZ (fits .columns), toZ-ofZ (fits .amount-rows), toZ-ofZ (fits .amount-columns)) at (called .sum-targets-within-travel-distance .ensures);
       reported = c .report .ensures;
     }
 

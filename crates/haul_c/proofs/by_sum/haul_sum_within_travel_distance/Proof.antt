@@ -1,12 +1,7 @@
--- `by_sum::haul_sum_within_travel_distance` meets its contract: it reports what the search answered. Assumes nothing.
-use mathlib.Core.Bool.{Bool}
-use mathlib.Core.Path.{subst}
+-- `by_sum::haul_sum_within_travel_distance` meets its contract: it reports what the search answered. A side that is passed on
+-- is read as it was given. Assumes nothing.
 use borrow.Author.Needs.{needs}
-use denote.Ref.{now}
-use Rattle.calls.specs.Promise.{slice}
-use Rattle.sums.specs.Promise.{SumWithinTravelDistance}
-use Rattle.haul_c.specs.Export.{size}
-use Rattle.haul_c.proofs.Read.{read, of-size}
+use mir.Facts.{toZ-ofZ}
 use Rattle.haul_c.proofs.by_sum.haul_sum_within_travel_distance.Statement.{statement}
 use Rattle.haul_c.proofs.by_sum.haul_sum_within_travel_distance.Tie as tie
 
@@ -40,18 +35,11 @@ same-length-6 c = search needs
 returns : tie.Need-returns
 returns c =
     let called = c .before .before .before .before .before .before .before .before .before .before .before .before .before .before .before in
-    let start = called .before .before .before .before .before .before .before .before .before .before .before .before .before .before .before .before .before in
-    let args = start .args in
-    let last = called .sum-within-travel-distance .last in
-    let told = called .before .before .before .before .before .before .before .is-yes in
+    let fits = called .before .before .before .before .before .before .before .before .before .before .before .before .before .before .before .before .before .fits in
+    let included = called .before .before .before .before .before .before .before .is-yes in
     record {
       answer = called .sum-within-travel-distance .result;
-      promised =
-          subst (λ (flag : Bool). SumWithinTravelDistance (size (args .rows) (args .columns)) (now (args .mask)) (size (args .time-rows) (args .time-columns)) (now (args .times)) (size (args .value-rows) (args .value-columns)) (now (args .values)) (args .limit) flag (slice (now (args .answer)) (last .1 .1 .1 .1 .1 .1 .1 .1 .0)) (slice (now (args .distances)) (last .1 .1 .1 .1 .1 .1 .1 .1 .1 .0)) (slice (now (args .marks)) (last .1 .1 .1 .1 .1 .1 .1 .1 .1 .1 .0)) (slice (now (args .listed)) (last .1 .1 .1 .1 .1 .1 .1 .1 .1 .1 .1 .0)) (slice (now (args .adjacent)) (last .1 .1 .1 .1 .1 .1 .1 .1 .1 .1 .1 .1 .0)) (slice (now (args .queue)) (last .1 .1 .1 .1 .1 .1 .1 .1 .1 .1 .1 .1 .1 .0)) (called .sum-within-travel-distance .result)) (told .ensures)
-          (of-size (λ given. SumWithinTravelDistance given (now (args .mask)) (size (args .time-rows) (args .time-columns)) (now (args .times)) (size (args .value-rows) (args .value-columns)) (now (args .values)) (args .limit) (told .result) (slice (now (args .answer)) (last .1 .1 .1 .1 .1 .1 .1 .1 .0)) (slice (now (args .distances)) (last .1 .1 .1 .1 .1 .1 .1 .1 .1 .0)) (slice (now (args .marks)) (last .1 .1 .1 .1 .1 .1 .1 .1 .1 .1 .0)) (slice (now (args .listed)) (last .1 .1 .1 .1 .1 .1 .1 .1 .1 .1 .1 .0)) (slice (now (args .adjacent)) (last .1 .1 .1 .1 .1 .1 .1 .1 .1 .1 .1 .1 .0)) (slice (now (args .queue)) (last .1 .1 .1 .1 .1 .1 .1 .1 .1 .1 .1 .1 .1 .0)) (called .sum-within-travel-distance .result)) (start .fits .rows) (start .fits .columns)
-          (of-size (λ given. SumWithinTravelDistance (size (read (args .rows)) (read (args .columns))) (now (args .mask)) given (now (args .times)) (size (args .value-rows) (args .value-columns)) (now (args .values)) (args .limit) (told .result) (slice (now (args .answer)) (last .1 .1 .1 .1 .1 .1 .1 .1 .0)) (slice (now (args .distances)) (last .1 .1 .1 .1 .1 .1 .1 .1 .1 .0)) (slice (now (args .marks)) (last .1 .1 .1 .1 .1 .1 .1 .1 .1 .1 .0)) (slice (now (args .listed)) (last .1 .1 .1 .1 .1 .1 .1 .1 .1 .1 .1 .0)) (slice (now (args .adjacent)) (last .1 .1 .1 .1 .1 .1 .1 .1 .1 .1 .1 .1 .0)) (slice (now (args .queue)) (last .1 .1 .1 .1 .1 .1 .1 .1 .1 .1 .1 .1 .1 .0)) (called .sum-within-travel-distance .result)) (start .fits .time-rows) (start .fits .time-columns)
-          (of-size (λ given. SumWithinTravelDistance (size (read (args .rows)) (read (args .columns))) (now (args .mask)) (size (read (args .time-rows)) (read (args .time-columns))) (now (args .times)) given (now (args .values)) (args .limit) (told .result) (slice (now (args .answer)) (last .1 .1 .1 .1 .1 .1 .1 .1 .0)) (slice (now (args .distances)) (last .1 .1 .1 .1 .1 .1 .1 .1 .1 .0)) (slice (now (args .marks)) (last .1 .1 .1 .1 .1 .1 .1 .1 .1 .1 .0)) (slice (now (args .listed)) (last .1 .1 .1 .1 .1 .1 .1 .1 .1 .1 .1 .0)) (slice (now (args .adjacent)) (last .1 .1 .1 .1 .1 .1 .1 .1 .1 .1 .1 .1 .0)) (slice (now (args .queue)) (last .1 .1 .1 .1 .1 .1 .1 .1 .1 .1 .1 .1 .1 .0)) (called .sum-within-travel-distance .result)) (start .fits .value-rows) (start .fits .value-columns)
-          (called .sum-within-travel-distance .ensures))));
+      promised = rw (toZ-ofZ (fits .rows), toZ-ofZ (fits .columns), toZ-ofZ (fits .time-rows), toZ-ofZ (fits .time-columns), toZ-ofZ (fits .value-rows), toZ-ofZ (fits .value-columns), included .ensures) at (called .sum-within-travel-distance .ensures);
       reported = c .report .ensures;
     }
 

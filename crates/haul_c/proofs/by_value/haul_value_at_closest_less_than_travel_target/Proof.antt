@@ -1,10 +1,7 @@
--- `by_value::haul_value_at_closest_less_than_travel_target` meets its contract: it reports what the search answered. Assumes nothing.
+-- `by_value::haul_value_at_closest_less_than_travel_target` meets its contract: it reports what the search answered. A side that is passed on
+-- is read as it was given. Assumes nothing.
 use borrow.Author.Needs.{needs}
-use denote.Ref.{now}
-use Rattle.calls.specs.Promise.{slice}
-use Rattle.values.specs.Promise.{ValueAtClosestLessThanTravelTarget}
-use Rattle.haul_c.specs.Export.{size}
-use Rattle.haul_c.proofs.Read.{read, of-size}
+use mir.Facts.{toZ-ofZ}
 use Rattle.haul_c.proofs.by_value.haul_value_at_closest_less_than_travel_target.Statement.{statement}
 use Rattle.haul_c.proofs.by_value.haul_value_at_closest_less_than_travel_target.Tie as tie
 
@@ -29,16 +26,10 @@ same-length-4 c = search needs
 returns : tie.Need-returns
 returns c =
     let called = c .before .before .before .before .before .before .before .before .before .before .before in
-    let start = called .before .before .before .before .before .before .before .before .before .before .before .before in
-    let args = start .args in
-    let last = called .value-at-closest-less-than-travel-target .last in
+    let fits = called .before .before .before .before .before .before .before .before .before .before .before .before .fits in
     record {
       answer = called .value-at-closest-less-than-travel-target .result;
-      promised =
-          of-size (λ given. ValueAtClosestLessThanTravelTarget given (now (args .targets)) (size (args .time-rows) (args .time-columns)) (now (args .times)) (size (args .value-rows) (args .value-columns)) (now (args .values)) (args .limit) (slice (now (args .answer)) (last .1 .1 .1 .1 .1 .1 .1 .0)) (slice (now (args .distances)) (last .1 .1 .1 .1 .1 .1 .1 .1 .0)) (slice (now (args .marks)) (last .1 .1 .1 .1 .1 .1 .1 .1 .1 .0)) (slice (now (args .queue)) (last .1 .1 .1 .1 .1 .1 .1 .1 .1 .1 .0)) (called .value-at-closest-less-than-travel-target .result)) (start .fits .rows) (start .fits .columns)
-          (of-size (λ given. ValueAtClosestLessThanTravelTarget (size (read (args .rows)) (read (args .columns))) (now (args .targets)) given (now (args .times)) (size (args .value-rows) (args .value-columns)) (now (args .values)) (args .limit) (slice (now (args .answer)) (last .1 .1 .1 .1 .1 .1 .1 .0)) (slice (now (args .distances)) (last .1 .1 .1 .1 .1 .1 .1 .1 .0)) (slice (now (args .marks)) (last .1 .1 .1 .1 .1 .1 .1 .1 .1 .0)) (slice (now (args .queue)) (last .1 .1 .1 .1 .1 .1 .1 .1 .1 .1 .0)) (called .value-at-closest-less-than-travel-target .result)) (start .fits .time-rows) (start .fits .time-columns)
-          (of-size (λ given. ValueAtClosestLessThanTravelTarget (size (read (args .rows)) (read (args .columns))) (now (args .targets)) (size (read (args .time-rows)) (read (args .time-columns))) (now (args .times)) given (now (args .values)) (args .limit) (slice (now (args .answer)) (last .1 .1 .1 .1 .1 .1 .1 .0)) (slice (now (args .distances)) (last .1 .1 .1 .1 .1 .1 .1 .1 .0)) (slice (now (args .marks)) (last .1 .1 .1 .1 .1 .1 .1 .1 .1 .0)) (slice (now (args .queue)) (last .1 .1 .1 .1 .1 .1 .1 .1 .1 .1 .0)) (called .value-at-closest-less-than-travel-target .result)) (start .fits .value-rows) (start .fits .value-columns)
-          (called .value-at-closest-less-than-travel-target .ensures)));
+      promised = rw (toZ-ofZ (fits .rows), toZ-ofZ (fits .columns), toZ-ofZ (fits .time-rows), toZ-ofZ (fits .time-columns), toZ-ofZ (fits .value-rows), toZ-ofZ (fits .value-columns)) at (called .value-at-closest-less-than-travel-target .ensures);
       reported = c .report .ensures;
     }
 
