@@ -6,7 +6,7 @@ use mathlib.Core.Path.{_≡_, refl, sym, ap, _∙_, subst}
 use Prim.Native.Nat.{ℕ, suc}
 use Rattle.fifo.specs.Machine.{Net, State, among, joined, passing, initial, label, take, run, trace}
 use Rattle.fifo.specs.Walk.{In, NoDup}
-use Rattle.fifo.proofs.Lists.{tested, not-among, among-in, in-among, in-either, in-back, joined-waiting, joined-new, in-joined, joiner-in, no-dup-passing}
+use Rattle.fifo.proofs.Lists.{tested, not-among, among-in, in-among, in-snoc, in-back, joined-waiting, joined-new, in-joined, joiner-in, no-dup-passing}
 use Rattle.fifo.proofs.Induction.{waiting-store, entered-store, Kept, take-keeps, run-zero, run-stopped, run-head, trace-zero, trace-stopped, trace-head, by-takes, run-keeps}
 
 -- A list's cells join those that were found, in order: each once, where it comes first.
@@ -35,7 +35,7 @@ once-new found (c ∷ cells) single apart =
 
     still-apart : (d : ℕ) → In d cells → In d (found ++ c ∷ []) → ⊥
     still-apart d i j =
-        ⊎-elim (apart d (inr i)) (⊎-elim (λ p. single .0 (subst (λ x. In x cells) p i)) absurd) (in-either d found (c ∷ []) j)
+        ⊎-elim (apart d (inr i)) (λ p. single .0 (subst (λ x. In x cells) p i)) (in-snoc d c found j)
 
 -- A cell that joins the end of a list comes once.
 once-joins : (past : List ℕ) (v : ℕ) (ws : List ℕ) → once [] (past ++ joined v ws) ≡ joined v (once [] (past ++ ws))

@@ -79,14 +79,6 @@ in-or-not v ws = ⊎-elim (λ t. inl (among-in v ws t)) (λ f. inr (λ i. true-o
 pub not-among : (v : ℕ) (ws : List ℕ) → (In v ws → ⊥) → among v ws ≡ false
 not-among v ws out = ⊎-elim (λ t. absurd (out (among-in v ws t))) (λ f. f) (tested (among v ws))
 
--- Two lists that both have a cell, or neither, answer alike.
-pub among-alike : (v : ℕ) (l m : List ℕ) → (In v l → In v m) → (In v m → In v l) → among v l ≡ among v m
-among-alike v l m to from =
-    ⊎-elim
-    (λ t. t ∙ sym (in-among v m (to (among-in v l t))))
-    (λ f. f ∙ sym (not-among v m (λ i. true-or-false (in-among v l (from i)) f)))
-    (tested (among v l))
-
 -- Membership in a list that goes on.
 pub in-front : {A : Type 0} (a : A) (l m : List A) → In a l → In a (l ++ m)
 in-front a [] m i = absurd i
@@ -101,6 +93,9 @@ pub in-either : {A : Type 0} (a : A) (l m : List A) → In a (l ++ m) → In a l
 in-either a [] m i = inr i
 in-either a (b ∷ l) m (inl p) = inl (inl p)
 in-either a (b ∷ l) m (inr i) = ⊎-elim (λ j. inl (inr j)) inr (in-either a l m i)
+
+pub in-snoc : {A : Type 0} (a b : A) (l : List A) → In a (l ++ b ∷ []) → In a l ⊎ (a ≡ b)
+in-snoc a b l i = ⊎-elim inl (⊎-elim inr absurd) (in-either a l (b ∷ []) i)
 
 pub in-map : {A B : Type 0} (g : A → B) (b : B) (l : List A) → In b (map g l) → (a : A) × In a l × (b ≡ g a)
 in-map g b [] i = absurd i
@@ -149,12 +144,12 @@ joiner-in c v ws p = by-test (In c) (among v ws) (λ e. subst (λ b. In b ws) (s
 pub joined-cases : (c v : ℕ) (ws : List ℕ) → In c (joined v ws) → In c ws ⊎ (c ≡ v)
 unfolding joined
 joined-cases c v ws =
-    by-test (λ l. In c l → In c ws ⊎ (c ≡ v)) (among v ws) (λ _ i. inl i) (λ _ i. ⊎-elim inl (⊎-elim inr absurd) (in-either c ws (v ∷ []) i))
+    by-test (λ l. In c l → In c ws ⊎ (c ≡ v)) (among v ws) (λ _ i. inl i) (λ _. in-snoc c v ws)
 
 no-dup-snoc : (v : ℕ) (ws : List ℕ) → NoDup ws → (In v ws → ⊥) → NoDup (ws ++ v ∷ [])
 no-dup-snoc v [] n out = (λ i. i, tt)
 no-dup-snoc v (w ∷ ws) n out =
-    (λ i. ⊎-elim (n .0) (⊎-elim (λ p. out (inl (sym p))) absurd) (in-either w ws (v ∷ []) i), no-dup-snoc v ws (n .1) (λ i. out (inr i)))
+    (λ i. ⊎-elim (n .0) (λ p. out (inl (sym p))) (in-snoc w v ws i), no-dup-snoc v ws (n .1) (λ i. out (inr i)))
 
 pub no-dup-joined : (v : ℕ) (ws : List ℕ) → NoDup ws → NoDup (joined v ws)
 unfolding joined

@@ -1,7 +1,7 @@
 -- The list of the cells that were reached: a cell that joins keeps the marks and the list in agreement. Assumes nothing.
 use mathlib.Core.Bool.{Bool, true, false, not}
 use mathlib.Core.List.{List, [], _∷_, _++_}
-use mathlib.Core.Logic.{inl, ⊎-elim}
+use mathlib.Core.Logic.{⊎-elim}
 use mathlib.Core.Path.{_≡_, refl, sym, ap, _∙_, subst}
 use Prim.Native.Nat.{ℕ, _+_, _<_}
 use native.Mathlib.Numerals.{add-one}
@@ -10,7 +10,7 @@ use lib.Dec.{eqb}
 use lib.ListN.{length, getD, take, set, replicate, length-set, length-append, length-replicate, getD-replicate}
 use lib.Seq.{getD-set-same, getD-set-other, take-suc-set}
 use Rattle.fifo.specs.Machine.{among, joined}
-use Rattle.fifo.proofs.Lists.{same-or-not, in-among, among-alike, in-front, in-back, in-either, joined-waiting, joined-new, no-dup-joined, room-for-new}
+use Rattle.fifo.proofs.Lists.{same-or-not, in-snoc, among-other, among-last, joined-waiting, joined-new, no-dup-joined, room-for-new}
 use Rattle.reach.specs.Listing.{Met, Listing, Joining, Joined, Cells}
 use Rattle.reach.proofs.Reading.{in-take, take-few}
 
@@ -33,13 +33,13 @@ module _ {n : ℕ} {met cells : List ℕ} (marks : Met n met cells) where
   }
     where
       at-v : eqb (getD (set met v 1) v 0) 0 ≡ not (among v (cells ++ v ∷ []))
-      at-v = ap (λ m. eqb m 0) (getD-set-same met v 1 0 (rw (marks .long) inside)) ∙ ap not (sym (in-among v (cells ++ v ∷ []) (in-back v cells (v ∷ []) (inl refl))))
+      at-v = ap (λ m. eqb m 0) (getD-set-same met v 1 0 (rw (marks .long) inside)) ∙ ap not (sym (among-last v cells))
 
       elsewhere : (c : ℕ) → c < n → (c ≡ v → ⊥) → eqb (getD (set met v 1) c 0) 0 ≡ not (among c (cells ++ v ∷ []))
       elsewhere c below other =
           ap (λ m. eqb m 0) (getD-set-other met v c 1 0 other)
           ∙ marks .told c below
-          ∙ ap not (among-alike c cells (cells ++ v ∷ []) (in-front c cells (v ∷ [])) (λ i. ⊎-elim (λ j. j) (⊎-elim (λ p. absurd (other p)) absurd) (in-either c cells (v ∷ []) i)))
+          ∙ ap not (sym (among-other c v cells other))
 
 -- ---- the list
 
@@ -67,7 +67,7 @@ module _ {cell : ℕ} {met listed : List ℕ} {count : ℕ} (joins : Joining cel
         counted = length-append (take count listed) (cell ∷ []) ∙ ap (λ k. k + 1) (joins .lists .counted);
         first = ap (λ k. take k (set listed count cell)) (add-one count) ∙ take-suc-set listed count cell entry-free;
         single = rw (joined-new cell (take count listed) not-yet) at (no-dup-joined cell (take count listed) (joins .lists .single));
-        inside = λ c i. ⊎-elim (joins .lists .inside c) (⊎-elim (λ p. rw p (joins .inside)) absurd) (in-either c (take count listed) (cell ∷ []) i);
+        inside = λ c i. ⊎-elim (joins .lists .inside c) (λ p. rw p (joins .inside)) (in-snoc c cell (take count listed) i);
       });
     }
 

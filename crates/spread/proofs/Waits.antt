@@ -12,9 +12,9 @@ use lib.Seq.{getD-set-same, getD-set-other}
 use Rattle.cells.specs.Ring.{contents, HasRoom, Pushed, Took}
 use Rattle.cells.specs.declared.ring.Ring.{Ring}
 use Rattle.cells.specs.declared.ring.Taken.{Taken}
-use Rattle.fifo.specs.Machine.{among, passing}
+use Rattle.fifo.specs.Machine.{among}
 use Rattle.fifo.specs.Walk.{In, NoDup}
-use Rattle.fifo.proofs.Lists.{same-or-not, in-either, joined-waiting, joined-new, no-dup-joined, not-among, among-other, among-tail, among-last, room-for-new}
+use Rattle.fifo.proofs.Lists.{same-or-not, in-snoc, joined-waiting, joined-new, no-dup-joined, not-among, among-other, among-tail, among-last, room-for-new}
 use Rattle.spread.specs.Waiting.{border, Waiting, Beginning, Began, Joining, Joined, TookFirst}
 
 -- ---- marks and ring
@@ -41,7 +41,7 @@ module _ {seen : ℕ} {marks queue : List ℕ} {ring : Ring} (waits : Waiting se
         slots = pushed .same-length ∙ waits .slots ∙ ap suc (sym (length-set marks v border));
         in-slots = pushed .good;
         single = rw (pushed .added ∙ sym (joined-new v old out)) (no-dup-joined v old (waits .single));
-        inside = λ c i. ⊎-elim (λ j. let in-seen = waits .inside c j in omega arith) (⊎-elim (λ p. rw p v-seen) absurd) (in-either c old (v ∷ []) (rw (pushed .added) at i));
+        inside = λ c i. ⊎-elim (λ j. let in-seen = waits .inside c j in omega arith) (λ p. rw p v-seen) (in-snoc c v old (rw (pushed .added) at i));
         marked = λ c below. rw (pushed .added) (⊎-elim (λ p. rw p at-v) (λ other. elsewhere c below other) (same-or-not c v));
       }
     where
