@@ -1,5 +1,5 @@
 -- The list of the cells that were reached: a cell that joins keeps the marks and the list in agreement. Assumes nothing.
-use mathlib.Core.Bool.{Bool, true, false, not}
+use mathlib.Core.Bool.{Bool, false, not}
 use mathlib.Core.List.{List, [], _∷_, _++_}
 use mathlib.Core.Logic.{⊎-elim}
 use mathlib.Core.Path.{_≡_, refl, sym, ap, _∙_, subst}
@@ -11,19 +11,16 @@ use lib.ListN.{length, getD, take, set, replicate, length-set, length-append, le
 use lib.Seq.{getD-set-same, getD-set-other, take-suc-set}
 use Rattle.fifo.specs.Machine.{among, joined}
 use Rattle.fifo.proofs.Lists.{same-or-not, in-snoc, among-other, among-last, joined-waiting, joined-new, no-dup-joined, room-for-new}
+use Rattle.rules.proofs.Tests.{opposite}
 use Rattle.reach.specs.Listing.{Met, Listing, Joining, Joined, Cells}
 use Rattle.reach.proofs.Reading.{in-take, take-few}
-
-turned : (a b : Bool) → a ≡ not b → b ≡ not a
-turned a true e = ap not (sym e)
-turned a false e = ap not (sym e)
 
 -- ---- the marks
 
 module _ {n : ℕ} {met cells : List ℕ} (marks : Met n met cells) where
   -- A mark says whether the cell is among them.
   pub met-says : (v : ℕ) → v < n → {b : Bool} → eqb (getD met v 0) 0 ≡ b → among v cells ≡ not b
-  met-says v inside e = turned (eqb (getD met v 0) 0) (among v cells) (marks .told v inside) ∙ ap not e
+  met-says v inside e = opposite (eqb (getD met v 0) 0) (among v cells) (marks .told v inside) ∙ ap not e
 
   -- One cell more is met.
   pub met-more : (v : ℕ) → v < n → Met n (set met v 1) (cells ++ v ∷ [])

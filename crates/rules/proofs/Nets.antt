@@ -19,31 +19,9 @@ use Rattle.rules.specs.Sizes.{Grid, count}
 use Rattle.rules.specs.Distances.{byte, float, target, target-data, has-data, from-targets, plus-step, plain, free, blocked, with-obstacles, half-sum, plus-half-sum, both-data, travel}
 use Rattle.rules.specs.Values.{Carried, carrying, closest, plus-time, starts-by-time, entered-by-time, closest-by-time}
 use Rattle.rules.specs.Sums.{from-mask-cell, time-or-quarter, from-amount}
+use Rattle.rules.proofs.Tests.{chosen, or-left, or-right, left-fails, right-holds}
 use Rattle.rules.proofs.Inputs.{whole-is-distance, AcceptedTimes, time-non-negative, time-or-quarter-non-negative, AcceptedBudget, budget-and-one-non-negative}
 use Rattle.rules.proofs.AddedCosts.{AddsCosts, laws-of-costs, StepLength, moves-add}
-
--- ---- computed tests
-
-chosen : {A : Type 0} (b : Bool) (x y : A) → T b → cond b x y ≡ x
-chosen true x y t = refl
-chosen false x y t = absurd t
-
-or-left : (a b : Bool) → T a → T (a || b)
-or-left true b t = tt
-or-left false b t = absurd t
-
-or-right : (a b : Bool) → T b → T (a || b)
-or-right true b t = tt
-or-right false b t = t
-
-left-fails : (a b : Bool) → T b → (a && b) ≡ false → a ≡ false
-left-fails true true t e = e
-left-fails true false t e = absurd t
-left-fails false b t e = refl
-
-right-holds : (a b : Bool) → T (a || b) → a ≡ false → T b
-right-holds true b t e = absurd (subst T e tt)
-right-holds false b t e = t
 
 -- The two tests of `moves` are one.
 either : {A : Type 0} → A ⊎ A → A

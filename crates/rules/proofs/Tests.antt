@@ -1,7 +1,8 @@
 -- Two tests of which the second is made only where the first asks for it, and what a test's answer says. Assumes nothing.
-use mathlib.Core.Bool.{Bool, true, false, not, _&&_, _||_, false≢true}
-use mathlib.Core.Path.{_≡_, refl, sym, ap, _∙_}
+use mathlib.Core.Bool.{Bool, true, false, not, cond, _&&_, _||_, false≢true, Bool·not-not}
+use mathlib.Core.Path.{_≡_, refl, sym, ap, _∙_, subst}
 use borrow.Author.Tests.{not-true, not-false}
+use lib.Dec.{T}
 
 -- ---- both, and either
 
@@ -19,6 +20,12 @@ pub and-both : (a b : Bool) → (a && b) ≡ true → (a ≡ true) × (b ≡ tru
 and-both true b both = (refl, both)
 and-both false b both = absurd (false≢true both)
 
+-- Where they do not both hold and the second does, the first fails.
+pub left-fails : (a b : Bool) → T b → (a && b) ≡ false → a ≡ false
+left-fails true true t e = e
+left-fails true false t e = absurd t
+left-fails false b t e = refl
+
 -- Where the first fails the second decides, and where it holds it decides itself.
 pub or-then : (a b : Bool) → a ≡ false → b ≡ (a || b)
 or-then true b first = absurd (false≢true (sym first))
@@ -28,10 +35,32 @@ pub or-yes : (a b : Bool) → a ≡ true → a ≡ (a || b)
 or-yes true b first = refl
 or-yes false b first = absurd (false≢true first)
 
+-- Where one holds, one of the two does; where the first of them fails, the second does.
+pub or-left : (a b : Bool) → T a → T (a || b)
+or-left true b t = tt
+or-left false b t = absurd t
+
+pub or-right : (a b : Bool) → T b → T (a || b)
+or-right true b t = tt
+or-right false b t = t
+
+pub right-holds : (a b : Bool) → T (a || b) → a ≡ false → T b
+right-holds true b t e = absurd (subst T e tt)
+right-holds false b t e = t
+
 -- Where neither may hold, both fail.
 pub neither : (a b : Bool) → (a || b) ≡ false → (a ≡ false) × (b ≡ false)
 neither true b none = absurd (false≢true (sym none))
 neither false b none = (refl, none)
+
+-- What is chosen by a test that holds.
+pub chosen : {A : Type 0} (b : Bool) (x y : A) → T b → cond b x y ≡ x
+chosen true x y t = refl
+chosen false x y t = absurd t
+
+-- Of two opposites each is the other's.
+pub opposite : (a b : Bool) → a ≡ not b → b ≡ not a
+opposite a b e = sym (Bool·not-not b) ∙ ap not (sym e)
 
 -- ---- what an answer says of what it stands for
 

@@ -10,7 +10,7 @@ use borrow.Author.Tests.{ne-eqb}
 use lib.Dec.{T, eqb}
 use lib.IntN.{natAbs}
 use lib.Ieee.{Float}
-use lib.ListN.{length, getD}
+use lib.ListN.{getD}
 use lib.Signed.{mag, nonNeg}
 use mir.Syntax.{w32}
 use mir.Val.{Fits}
@@ -21,6 +21,7 @@ use Rattle.rules.specs.declared.Size.{Size}
 use Rattle.rules.specs.Sizes.{Grid, grid, count}
 use Rattle.rules.specs.Cells.{index, row-of, col-of}
 use Rattle.rules.specs.Distances.{obstacle, free, blocked}
+use Rattle.rules.proofs.Tests.{opposite}
 use Rattle.spread.specs.declared.search.Rule.{Rule}
 use Rattle.spread.specs.declared.search.Rule.the-variants.{Plain, Obstacles, HalfSum, Closest, ByTime, FromMaskCell, FromAmount}
 use Rattle.spread.specs.Nets.{reads-times}
@@ -36,12 +37,8 @@ says-free obstacles cell = record { says = λ size. free-byte (getD obstacles ce
     free-byte : (b : ℕ) → eqb b 0 ≡ not (not (eqb b 0) || eqb b 255)
     free-byte b = ⊎-elim (λ zero. rw zero) (λ nonzero. rw (ne-eqb b 0 nonzero)) (same-or-not b 0)
 
-opposite : {answer b : Bool} → answer ≡ not b → not answer ≡ b
-opposite {b = true} e = ap not e
-opposite {b = false} e = ap not e
-
 obstacle-is : {obstacles : List ℕ} {cell : ℕ} {answer : Bool} → SaysFree obstacles cell answer → (size : Size) → obstacle (grid size obstacles) cell ≡ not answer
-obstacle-is free-says size = sym (opposite (free-says .says size))
+obstacle-is {obstacles} {cell} {answer} free-says size = opposite answer (obstacle (grid size obstacles) cell) (free-says .says size)
 
 -- ---- the cell in the row of one cell and the column of another
 
