@@ -14,6 +14,11 @@ use Rattle.fifo.proofs.Induction.{awaiting, label-stored, label-unstore
 use Rattle.fifo.proofs.Order.{not-below-itself, good-above, below-trans}
 use Rattle.fifo.proofs.Sound.{label-initial, passing-starts, head-in, rest-in, sound-awaiting, stored-inside, sound-store, not-below-stored, sound-take}
 
+-- A walk begins at a starting cell.
+pub walk-starts : {L : Type 0} {net : Net L} {from c : ℕ} {d : L} → Walk net from c d → Starting net from
+walk-starts (here starts) = starts
+walk-starts (on f walk i) = walk-starts walk
+
 module _ {L : Type 0} {net : Net L} (laws : Laws net) where
   -- A walk stays on cells that may be entered, with labels that travel.
   pub walk-good : {from c : ℕ} {d : L} → Walk net from c d → Enterable net c × laws .Good d

@@ -1,4 +1,4 @@
--- What holds of a search from its start after every count of takes.
+-- What holds of a search from its start after every count of takes, and where it ends.
 use mathlib.Core.Bool.{false}
 use mathlib.Core.List.{map}
 use mathlib.Core.Path.{_≡_, _∙_}
@@ -19,12 +19,14 @@ module _ {L : Type 0} {net : Net L} (laws : Laws net) (k : ℕ) where
   pub waiting-single : NoDup (run net k (initial net) .waiting)
   waiting-single = search-sound .single
 
-  -- There are as many labels as cells, and a cell that may not be entered keeps its first one.
+  -- There are as many labels as cells.
   pub labels-length : length (run net k (initial net) .labels) ≡ net .cells
   labels-length = search-sound .size
 
-  pub closed-first : (c : ℕ) → net .enterable c ≡ false → label net (run net k (initial net)) c ≡ net .first c
-  closed-first c closed = closed-kept laws c closed k (initial net) (sound-initial laws) ∙ label-initial net c
+-- Where the search ends, a cell that may not be entered has its first label.
+pub closed-first : {L : Type 0} {net : Net L} → Laws net → (c : ℕ) → net .enterable c ≡ false → label net (finish net) c ≡ net .first c
+unfolding finish
+closed-first {net = net} laws c closed = closed-kept laws c closed (net .cells * net .cells) (initial net) (sound-initial laws) ∙ label-initial net c
 
 -- What is read off the labels where the search ends: there is one for each cell, and that of a cell is read off the cell's label.
 module _ {L M : Type 0} {net : Net L} (laws : Laws net) (read : L → M) where

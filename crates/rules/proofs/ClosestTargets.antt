@@ -1,18 +1,19 @@
 -- Searches 4, 5 and 6: each reached cell holds the value of a target from which a permitted path leads to it with the least sum. Assumes nothing.
 use mathlib.Core.Bool.{Bool, true, false, not, cond, _||_}
 use mathlib.Core.Logic.{inl, inr, ⊎-elim}
-use mathlib.Core.Path.{_≡_, refl, sym, ap, _∙_, subst}
-use Prim.Native.Nat.{ℕ, suc, _*_, _<_}
-use lib.Dec.{T, eqb, eqb-refl}
+use mathlib.Core.Path.{_≡_, refl, ap, _∙_, subst}
+use Prim.Native.Nat.{ℕ, suc, _<_}
+use lib.Dec.{T}
 use lib.Ieee.{Float, nan, binary32, add, lt, fits, isNan}
 use lib.Ieee.Bits.{is-false}
 use lib.Ieee.Fits.{and-l}
 use mir.Facts.{T-not-not}
 use Rattle.binary32.specs.Numbers.{plus-zero}
 use Rattle.fifo.specs.Machine.{Net, label, finish}
-use Rattle.fifo.specs.Walk.{In, Starting, Walk, here, on}
+use Rattle.fifo.specs.Walk.{In, Walk, here, on}
 use Rattle.fifo.specs.Laws.{Laws, LeastSums}
 use Rattle.fifo.proofs.Lists.{in-or-not, is-true, tested, holds}
+use Rattle.fifo.proofs.Labels.{walk-starts}
 use Rattle.fifo.proofs.LeastSums.{least-sums}
 use Rattle.fifo.proofs.Search.{closed-first}
 use Rattle.rules.specs.Numbers.{whole}
@@ -20,13 +21,13 @@ use Rattle.rules.specs.Sizes.{Size, Grid, count}
 use Rattle.rules.specs.Cells.{moves}
 use Rattle.rules.specs.Distances.{float, target, has-data}
 use Rattle.rules.specs.Values.{Carried, carrying, closest, starts-by-time, entered-by-time, closest-by-time}
-use Rattle.rules.specs.Paths.{Path, alone, onward, AllowedBy, FromClosest, HoldsClosest, ClosestTargets-4, ClosestTargets-by-time}
-use Rattle.rules.proofs.Neighbours.{moves-permitted, permitted-moves}
+use Rattle.rules.specs.Paths.{Path, AllowedBy, FromClosest, HoldsClosest, ClosestTargets-4, ClosestTargets-by-time}
+use Rattle.rules.proofs.Neighbours.{moves-permitted}
 use Rattle.rules.proofs.AddedCosts.{AddsCosts, laws-of-costs}
+use Rattle.rules.proofs.PathWalks.{StepsAllowed, walk-path, no-path-less, steps-of-moves, permitted-by, allowed-by}
 use Rattle.rules.proofs.Inputs.{AcceptedTimes}
 use Rattle.rules.proofs.Nets.{closest-costs, closest-by-time-costs}
 use Rattle.rules.proofs.Squares.{laws-end}
-use Rattle.rules.proofs.LeastSums.{permitted-by, allowed-by}
 
 -- A search in which a value goes along: its steps go to the neighbours that pass a test, add a cost and leave the value; a starting cell has its own value.
 record CarriesAlong (net : Net Carried) (size : Size) (test : ℕ → Bool) (cost : ℕ → ℕ → Float → Float) (value : ℕ → Float) (cap : Float) : Type 0 where
@@ -41,41 +42,20 @@ module _
     abbrev Allowed : ℕ → ℕ → Float → Type 0
     Allowed = AllowedBy size test cost
 
-    step-of : ℕ → Float → ℕ → Carried → Carried
+    abbrev step-of : ℕ → Float → ℕ → Carried → Carried
     step-of u = carrying (λ s v d. add binary32 d (cost u v s))
 
-    -- A path is a walk from one of the targets, with that target's value.
-    path-walk : {c : ℕ} {d : Float} → Path (net .cells) (net .start) Allowed c d → (from : ℕ) × (x : Float) × Walk net from c (d, x)
-    unfolding step-of
-    path-walk (alone {c = c} inside starts) =
-        (c, net .first c .1, subst (λ d. Walk net c c (d, net .first c .1)) (along .costs .start-zero c (inside, starts)) (here (inside, starts)))
-    path-walk (onward {u = u} {v = v} {d = d} {s = w} path a) =
-        let (from, x, walk) = path-walk path in
-        let (s, entered, e) = permitted-by size test cost u v w a in
-        let i : In (v, step-of u s v) (net .nbrs u) = rw (along .nbrs-are u) (permitted-moves size test test (step-of u) u v entered) in
-        (from, x, subst (λ w. Walk net from v (add binary32 d w, x)) (sym e) (on (step-of u s v) walk i))
+    steps : StepsAllowed (λ l. l .0) net Allowed
+    steps =
+        steps-of-moves (λ l. l .0) net Allowed size (λ u. test) (λ u. test) cost step-of (λ u v s l. refl) (along .nbrs-are)
+        (permitted-by size test cost) (allowed-by size test cost)
 
-    -- And a walk is a path from its own target alone, whose value it brings.
-    record FromTarget (from c : ℕ) (l : Carried) : Type 0 where
-      starting : Starting net from
-      path : Path (net .cells) (eqb from) Allowed c (l .0)
-      its-value : l .1 ≡ value from
-
-    walk-path : {from c : ℕ} {l : Carried} → Walk net from c l → FromTarget from c l
-    unfolding step-of
-    walk-path (here {c = c} starts) = record {
-      starting = starts;
-      path = subst (Path (net .cells) (eqb c) Allowed c) (sym (along .costs .start-zero c starts)) (alone (starts .0) (eqb-refl c));
-      its-value = along .first-value c (starts .1);
-    }
-    walk-path (on {s = from} {u = u} {v = v} {d = l} f walk i) =
-        let before = walk-path walk in
+    -- A walk brings the value of the target that it starts at.
+    value-brought : {from c : ℕ} {l : Carried} → Walk net from c l → l .1 ≡ value from
+    value-brought (here {c = c} starts) = along .first-value c (starts .1)
+    value-brought (on {u = u} {v = v} {d = l} f walk i) =
         let (s, entered, e) = moves-permitted size test test (step-of u) u v f (rw (along .nbrs-are u) at i) in
-        record {
-          starting = before .starting;
-          path = subst (λ g. Path (net .cells) (eqb from) Allowed v (g l .0)) (sym e) (onward (before .path) (allowed-by size test cost u v s entered));
-          its-value = ap (λ g. g l .1) e ∙ before .its-value;
-        }
+        ap (λ g. g l .1) e ∙ value-brought walk
 
     -- A cell that was entered has a walk's label, so that a path from that walk's target has its distance for a sum, and it has that target's value.
     -- Any other holds what it began with. In either case no path gives less than the distance, as no walk does.
@@ -85,7 +65,7 @@ module _
         → HoldsClosest net marked Allowed value cap
     unfolding finish laws-of-costs
     holds-closest marked marked-closed others-capped = record {
-      marked-holds-nan = λ c inside m. let (closed, holds-nan) = marked-closed c m in closed-first laws (net .cells * net .cells) c closed ∙ holds-nan;
+      marked-holds-nan = λ c inside m. let (closed, holds-nan) = marked-closed c m in closed-first laws c closed ∙ holds-nan;
       other-holds-closest = λ c inside unmarked. ⊎-elim (λ entered. inl (reached c entered)) (λ out. inr (unreached c inside unmarked out)) (in-or-not c (finish net .entered));
       takes-within-square = laws-end laws .takes-within-square;
     }
@@ -99,20 +79,16 @@ module _
         held : ℕ → Carried
         held c = label net (finish net) c
 
-        no-less : (c : ℕ) (d : Float) → Path (net .cells) (net .start) Allowed c d → lt d (held c .0) ≡ false
-        no-less c d path = let (from, x, walk) = path-walk path in sym (along .costs .order (d, x) (held c)) ∙ least .no-less walk
-
         reached : (c : ℕ) → In c (finish net .entered) → FromClosest (net .cells) (net .start) Allowed value c (held c .0) (held c .1)
         reached c entered =
             let (from, walk) = least .entered-met c entered in
-            let found = walk-path walk in
             record {
               from = from;
-              inside = found .starting .0;
-              is-target = found .starting .1;
-              path = found .path;
-              its-value = found .its-value;
-              no-less = no-less c;
+              inside = (walk-starts walk) .0;
+              is-target = (walk-starts walk) .1;
+              path = walk-path (along .costs) steps walk;
+              its-value = value-brought walk;
+              no-less = no-path-less (along .costs) steps c;
             }
 
         unreached :
@@ -121,7 +97,7 @@ module _
         unreached c inside unmarked out =
             let rests : net .start c ≡ false = ⊎-elim (λ starts. absurd (out (least .start-entered c (inside, holds starts)))) (λ rests. rests) (tested (net .start c)) in
             let same = least .rest-first c out ∙ others-capped c rests unmarked in
-            (same, λ d path. subst (λ (l : Carried). lt d (l .0) ≡ false) same (no-less c d path))
+            (same, λ d path. subst (λ (l : Carried). lt d (l .0) ≡ false) same (no-path-less (along .costs) steps c d path))
 
 -- ---- search 4
 

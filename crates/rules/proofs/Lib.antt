@@ -8,6 +8,7 @@ pub mod Inputs
 pub mod Nets
 pub mod Squares
 pub mod NoTargets
+pub mod PathWalks
 pub mod LeastSums
 pub mod ClosestTargets
 pub mod Listed
