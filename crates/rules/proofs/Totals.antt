@@ -1,4 +1,5 @@
 -- The total of the takes over all starts of searches 7 and 8 stays below what a u64 holds, so it is the plain sum. Assumes nothing.
+use mathlib.Core.Bool.{Bool}
 use mathlib.Core.List.{List, [], _∷_, map, foldl}
 use mathlib.Core.Path.{_≡_}
 use Prim.Native.Nat.{ℕ, _+_, _*_, _≤_}
@@ -23,10 +24,12 @@ summed-takes before runs = foldl (λ total run. total + run .takes) before runs
 abbrev pub most-takes : ℕ
 most-takes = most-cells * most-cells
 
+-- What is at most the square of the cells is at most that.
+pub within-most : {takes cells : ℕ} → takes ≤ cells * cells → cells ≤ most-cells → takes ≤ most-takes
+within-most within few = le-trans within (mul-le-mul few few)
+
 takes-at-most : (net : Net Float) → EndsWithinSquare net → net .cells ≤ most-cells → takes-of net ≤ most-takes
-takes-at-most net ends few =
-    let room-few = le-trans (ends .room-within-cells) few in
-    le-trans (ends .takes-within-square) (mul-le-mul room-few room-few)
+takes-at-most net ends few = within-most (ends .takes-within-square) (le-trans (ends .room-within-cells) few)
 
 -- Each start adds at most that.
 pub summed-at-most :
@@ -38,9 +41,10 @@ summed-at-most net each before (c ∷ cells) = omega (arith, each c, summed-at-m
 -- So at most 2 ^ 20 starts take at most 2 ^ 60 together, and the total is not cut off.
 pub total-is-sum :
     (net : ℕ → Net Float) → ((c : ℕ) → takes-of (net c) ≤ most-takes)
-    → (cells : List ℕ) → length cells ≤ most-cells → total-takes (map (run-of net) cells) ≡ summed-takes 0 (map (run-of net) cells)
+    → (test : ℕ → Bool) (n : ℕ) → n ≤ most-cells
+    → total-takes (map (run-of net) (passing test 0 n)) ≡ summed-takes 0 (map (run-of net) (passing test 0 n))
 unfolding total-takes
-total-is-sum net each cells few = omega (arith, summed-at-most net each 0 cells)
+total-is-sum net each test n few = omega (arith, length-passing test 0 n, summed-at-most net each 0 (passing test 0 n))
 
 module _ (times : Grid Float) (bounds : T (in-bounds (times .size))) (times-good : AcceptedTimes times) where
   pub mask-cell-takes : (m : ℕ) → takes-of (from-mask-cell times m) ≤ most-takes
@@ -50,8 +54,7 @@ module _ (times : Grid Float) (bounds : T (in-bounds (times .size))) (times-good
   pub total-takes-7 : (mask : Grid ℕ) → T (in-bounds (mask .size)) → total-takes (runs-7 mask times) ≡ summed-takes 0 (runs-7 mask times)
   unfolding runs-7
   total-takes-7 mask mask-bounds =
-      let n = count (mask .size) in
-      total-is-sum (from-mask-cell times) mask-cell-takes (passing (target mask) 0 n) (le-trans (length-passing (target mask) 0 n) (cells-at-most (mask .size) mask-bounds))
+      total-is-sum (from-mask-cell times) mask-cell-takes (target mask) (count (mask .size)) (cells-at-most (mask .size) mask-bounds)
 
   module _ (budget : Float) (budget-good : AcceptedBudget budget) where
     pub amount-takes : (t : ℕ) → takes-of (from-amount times budget t) ≤ most-takes
@@ -61,5 +64,4 @@ module _ (times : Grid Float) (bounds : T (in-bounds (times .size))) (times-good
     pub total-takes-8 : (amounts : Grid Float) → total-takes (runs-8 times amounts budget) ≡ summed-takes 0 (runs-8 times amounts budget)
     unfolding runs-8
     total-takes-8 amounts =
-        let n = count (times .size) in
-        total-is-sum (from-amount times budget) amount-takes (passing (counts amounts) 0 n) (le-trans (length-passing (counts amounts) 0 n) (cells-at-most (times .size) bounds))
+        total-is-sum (from-amount times budget) amount-takes (counts amounts) (count (times .size)) (cells-at-most (times .size) bounds)

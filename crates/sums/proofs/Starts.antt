@@ -3,7 +3,7 @@ use mathlib.Core.Bool.{Bool, true, false, cond}
 use mathlib.Core.List.{List, [], _∷_, _++_, map, map-append, foldl, foldl-append}
 use mathlib.Core.Path.{_≡_, refl, sym, ap, _∙_}
 use Prim.Native.Nat.{ℕ, suc, _+_, _-_, _*_, _≤_, _<_}
-use native.Mathlib.Nat.{zero-add, le-refl, le-trans, mul-le-mul, lt-of-le-of-lt}
+use native.Mathlib.Nat.{zero-add, le-refl, mul-le-mul, lt-of-le-of-lt}
 use native.Mathlib.Omega.{arith}
 use lib.Dec.{T, lit<}
 use lib.Ieee.{Float}
@@ -17,12 +17,7 @@ use Rattle.rules.specs.declared.Size.{Size}
 use Rattle.rules.specs.Sizes.{in-bounds, count}
 use Rattle.rules.specs.Sums.{Run, run-of, total-takes}
 use Rattle.rules.proofs.Inputs.{most-cells, cells-at-most}
-use Rattle.rules.proofs.Totals.{summed-takes, most-takes, summed-at-most, total-is-sum}
-
--- The search from one start takes at most the square.
-pub takes-few : (net : Net Float) (n : ℕ) → Within (n * n) net → n ≤ most-cells → takes-of net ≤ most-takes
-unfolding takes-of
-takes-few net n within few = le-trans (within (net .cells * net .cells)) (mul-le-mul few few)
+use Rattle.rules.proofs.Totals.{summed-takes, most-takes, within-most, summed-at-most, total-is-sum}
 
 module _ (test : ℕ → Bool) (net : ℕ → Net Float) where
   -- The runs from those of the first i cells that pass the test.
@@ -74,8 +69,10 @@ module _ (test : ℕ → Bool) (net : ℕ → Net Float) where
     few : count size ≤ most-cells
     few = cells-at-most size bounds
 
+    -- The search from one start takes at most the square.
     at-most : (start : ℕ) → takes-of (net start) ≤ most-takes
-    at-most start = takes-few (net start) (count size) (each start) few
+    unfolding takes-of
+    at-most start = within-most (each start (net start .cells * net start .cells)) few
 
     -- The total stays far below what 64 bits hold.
     pub total-fits :
@@ -92,4 +89,4 @@ module _ (test : ℕ → Bool) (net : ℕ → Net Float) where
 
     -- So the total of the rules is not cut off.
     pub total-of-runs : summed-takes 0 (runs-to (count size)) ≡ total-takes (runs-to (count size))
-    total-of-runs = sym (total-is-sum net at-most (passing test 0 (count size)) (le-trans (length-passing test 0 (count size)) few))
+    total-of-runs = sym (total-is-sum net at-most test (count size) few)
