@@ -39,8 +39,8 @@ pub between : {end : ℤ} (n : ℕ) → Side end → n < mag end → T (within e
 between {end} n end-side less = rw (end-side .is-mag) (yes-and (leb 0 n) (ltb n (mag end)) (le→leb 0 n (omega arith)) (lt→ltb n (mag end) less))
 
 -- What is between the edges is small enough to be a side itself.
-pub small : {end k : ℤ} → Side end → Inside end k → Side k
-small {end} {k} end-side k-in = let most = end-side .most in let less = k-in .less in record { is-mag = k-in .is-mag; most = omega arith }
+pub inside-is-side : {end k : ℤ} → Side end → Inside end k → Side k
+inside-is-side {end} {k} end-side k-in = let most = end-side .most in let less = k-in .less in record { is-mag = k-in .is-mag; most = omega arith }
 
 -- The test of the code.
 module _ {end k : ℤ} (end-fits : SFits w32 end) (k-fits : SFits w32 k) where
@@ -98,10 +98,10 @@ module _ {k d : ℤ} (k-side : Side k) (step : Step d) where
 
 module _ {end k d : ℤ} (end-side : Side end) (k-in : Inside end k) (step : Step d) where
   pub step-fits : SFits w32 (read k +ℤ read d)
-  step-fits = rw (moved (small end-side k-in) step) (moved-fits (small end-side k-in) step)
+  step-fits = rw (moved (inside-is-side end-side k-in) step) (moved-fits (inside-is-side end-side k-in) step)
 
   pub stepped : read (read k +ℤ read d) ≡ k +ℤ d
-  stepped = toZ-ofZ step-fits ∙ moved (small end-side k-in) step
+  stepped = toZ-ofZ step-fits ∙ moved (inside-is-side end-side k-in) step
 
 -- ---- the index
 
@@ -114,10 +114,10 @@ module _ (size : Size) (bounds : Bounded size) {row col : ℤ} (row-in : Inside 
   index-small = lt-of-lt-of-le (index-below size (mag row) (mag col) (row-in .less) (col-in .less)) (bounds .cells-most)
 
   row-side : Side row
-  row-side = small (bounds .rows-side) row-in
+  row-side = inside-is-side (bounds .rows-side) row-in
 
   col-side : Side col
-  col-side = small (bounds .cols-side) col-in
+  col-side = inside-is-side (bounds .cols-side) col-in
 
   pub row-product-fits : SFits w32 (read row *ℤ read (size .cols))
   row-product-fits = product-fits row-side (bounds .cols-side)

@@ -20,7 +20,7 @@ use Rattle.cells.specs.Neighbours.{CellOf, Lists}
 use Rattle.cells.specs.Storing.{on}
 use Rattle.cells.specs.Interior.{Between, Inner, SaysInner, Interior, SaysInterior}
 use Rattle.cells.proofs.Bounds.{Side, side, Bounded, bounded, sides-fit, read, side-read, side-same}
-use Rattle.cells.proofs.Edges.{Inside, inside, between, small, step-fits, stepped, index-below, row-cast, col-cast, row-between, col-between}
+use Rattle.cells.proofs.Edges.{Inside, inside, between, inside-is-side, step-fits, stepped, index-below, row-cast, col-cast, row-between, col-between}
 use Rattle.cells.proofs.NeighbourArray.{all-filled}
 
 -- ---- the test of the code
@@ -46,7 +46,7 @@ module _ {end k : ℤ} (here : Between end k) where
   pub inner-said : ltZ (pos 0) (read k) ≡ true → SaysInner end k (ltZ (read (read k +ℤ pos 1)) (read end))
   inner-said first =
       let next : read (read k +ℤ pos 1) ≡ pos (mag k + 1) = stepped end-side k-in on ∙ ap (λ (z : ℤ). z +ℤ pos 1) (k-in .is-mag) in
-      let some : ltb 0 (mag k) ≡ true = rw (side-read (small end-side k-in)) at first in
+      let some : ltb 0 (mag k) ≡ true = rw (side-read (inside-is-side end-side k-in)) at first in
       record {
         says = λ second.
             let less : ltb (mag k + 1) (mag end) ≡ true = rw (next, side-read end-side) at second in

@@ -16,7 +16,7 @@ use Rattle.cells.specs.Neighbours.{CellOf}
 use Rattle.cells.specs.Storing.{InGrid, Step, Stepping, Neighbour, At, Outside, cells-at, Leads, Stored}
 use Rattle.fifo.proofs.Lists.{holds}
 use Rattle.cells.proofs.Bounds.{Bounded, bounded, read, side-same}
-use Rattle.cells.proofs.Edges.{Inside, inside, small, row-cast, col-cast, row-between, col-between}
+use Rattle.cells.proofs.Edges.{Inside, inside, inside-is-side, row-cast, col-cast, row-between, col-between}
 use Rattle.cells.proofs.Edges.{row-offset, col-offset, step-read, step-fits, stepped}
 
 -- ---- the place one step from a place in the grid
@@ -104,10 +104,10 @@ module _ (size : Size) (row col down across : ℤ) where
 -- A place that the code reads back from its bits is the same place.
 module _ {size : Size} {row col : ℤ} (place : InGrid size row col) where
   row-read : read row ≡ row
-  row-read = side-same (small (bounded size (place .bounds) .rows-side) (inside (size .rows) row (place .row-in)))
+  row-read = side-same (inside-is-side (bounded size (place .bounds) .rows-side) (inside (size .rows) row (place .row-in)))
 
   col-read : read col ≡ col
-  col-read = side-same (small (bounded size (place .bounds) .cols-side) (inside (size .cols) col (place .col-in)))
+  col-read = side-same (inside-is-side (bounded size (place .bounds) .cols-side) (inside (size .cols) col (place .col-in)))
 
   pub place-read : InGrid size (read row) (read col)
   place-read = rw (row-read, col-read) place

@@ -233,7 +233,7 @@ more-grids = refl
 -- ---- the bounds
 
 -- 1024 by 1024 and 32,767 by 32 pass; 1025 by 1024, 32,768 by 1 and -1 by 1 don't.
-pub bounds :
+pub sizes-in-bounds :
     map in-bounds (rows-by-cols (pos 1024) (pos 1024) ∷ rows-by-cols (pos 32767) (pos 32) ∷ rows-by-cols (pos 1025) (pos 1024) ∷ rows-by-cols (pos 32768) (pos 1) ∷ rows-by-cols (negsuc 0) (pos 1) ∷ [])
     ≡ true ∷ true ∷ false ∷ false ∷ false ∷ []
-bounds = refl
+sizes-in-bounds = refl
