@@ -1,17 +1,17 @@
 -- Searches 1, 2 and 3: distances. Definitions only.
-use mathlib.Core.Bool.{Bool, true, false, not, cond, _&&_, _||_}
+use mathlib.Core.Bool.{Bool, false, not, cond, _&&_, _||_}
 use mathlib.Core.List.{List, [], _∷_, map}
-use Prim.Native.Nat.{ℕ, _+_, _*_}
+use Prim.Native.Nat.{ℕ}
 use lib.Dec.{eqb}
 use lib.ListN.{getD, length}
 use lib.Ieee.{Float, nan, binary32, add, mul, div, lt}
 use Rattle.binary32.specs.Nodata.{nodata}
-use Rattle.fifo.specs.Machine.{Net, State, finish, takes-of}
+use Rattle.fifo.specs.Machine.{Net, finish, takes-of}
 use Rattle.binary32.specs.Numbers.{plus-zero, two}
 use Rattle.rules.specs.declared.BarrierDiagonals.{BarrierDiagonals}
 use Rattle.rules.specs.declared.BarrierDiagonals.the-variants.{Include, Exclude}
 use Rattle.rules.specs.Numbers.{infinity, nodata-byte, target-byte}
-use Rattle.rules.specs.Sizes.{Size, Grid, Spacing, Lent, Outcome, accepted, Judged, unless, first-that-holds, shape, bad-cell-size, nan-limit, negative-time, count}
+use Rattle.rules.specs.Sizes.{Grid, Spacing, Lent, Outcome, accepted, Judged, unless, first-that-holds, shape, bad-cell-size, nan-limit, negative-time, count}
 use Rattle.rules.specs.Cells.{index, row-of, col-of, moves}
 
 -- A byte grid's cell, and a float grid's.

@@ -14,7 +14,7 @@ use Rattle.rules.specs.declared.BarrierDiagonals.{BarrierDiagonals}
 use Rattle.rules.specs.Numbers.{infinity, whole}
 use Rattle.rules.specs.Sizes.{Size, Grid, count}
 use Rattle.rules.specs.Cells.{straight-neighbours, diagonal-neighbours}
-use Rattle.rules.specs.Distances.{float, target, target-data, has-data, plain, free, blocked, with-obstacles, half-sum, both-data, travel}
+use Rattle.rules.specs.Distances.{float, target-data, has-data, plain, free, blocked, with-obstacles, half-sum, both-data, travel}
 use Rattle.rules.specs.Values.{Carried, closest, entered-by-time, closest-by-time}
 
 -- A permitted path starts at a target and goes by steps that the search allows, and may pass a cell again. `Path c d`: such a path leads to the

@@ -1,5 +1,5 @@
 -- Document 01, "Sizes and refusals": grids, their bounds, and the tests by which a call is refused. Definitions only.
-use mathlib.Core.Bool.{Bool, true, false, not, cond, _&&_, _||_}
+use mathlib.Core.Bool.{Bool, false, not, cond, _&&_, _||_}
 use mathlib.Core.List.{List, [], _∷_, _++_}
 use Prim.Native.Nat.{ℕ, suc, _*_}
 use lib.Dec.{leb, eqb}

@@ -1,14 +1,14 @@
 -- Searches 4, 5 and 6: the value at the closest target. Definitions only.
-use mathlib.Core.Bool.{Bool, true, false, not, cond, _&&_, _||_}
+use mathlib.Core.Bool.{Bool, true, not, cond, _&&_, _||_}
 use mathlib.Core.List.{List, [], _∷_, map}
 use Prim.Native.Nat.{ℕ, suc}
 use lib.Dec.{eqb}
 use lib.ListN.{length}
 use lib.Ieee.{Float, nan, binary32, add, mul, lt}
-use Rattle.fifo.specs.Machine.{Net, State, finish, takes-of}
+use Rattle.fifo.specs.Machine.{Net, finish, takes-of}
 use Rattle.binary32.specs.Numbers.{plus-zero}
 use Rattle.rules.specs.Numbers.{infinity, whole}
-use Rattle.rules.specs.Sizes.{Size, Grid, Lent, Outcome, accepted, Judged, unless, first-that-holds, shape, nan-limit, negative-time, count}
+use Rattle.rules.specs.Sizes.{Grid, Lent, Outcome, accepted, Judged, unless, first-that-holds, shape, nan-limit, negative-time, count}
 use Rattle.rules.specs.Cells.{moves}
 use Rattle.rules.specs.Distances.{byte, float, target, has-data, plus-step}
 

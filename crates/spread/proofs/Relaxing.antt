@@ -10,7 +10,6 @@ use Rattle.fifo.specs.Machine.{Net, State, joined, label, store}
 use Rattle.fifo.proofs.Induction.{labels-store, waiting-store, relax-stores, relax-leaves}
 use Rattle.rules.specs.Values.{Carried, nearer}
 use Rattle.rules.specs.Sizes.{grid}
-use Rattle.spread.specs.declared.search.Rule.{Rule}
 use Rattle.spread.specs.declared.search.Search.{Search}
 use Rattle.spread.specs.declared.relax.Left.{Left}
 use Rattle.spread.specs.Nets.{sized, carries, labels-of}

@@ -29,7 +29,7 @@ use Rattle.spread.specs.Buffers.{Buffers, Good, Holds}
 use Rattle.spread.specs.Steps.{Terrain, terrain}
 use Rattle.spread.specs.First.{net-on}
 use Rattle.spread.specs.Begin.{BeganTo}
-use Rattle.spread.specs.Loop.{Setting, Taking, TookCell, Ready, Taken, TookUpTo, Running, Ran}
+use Rattle.spread.specs.Loop.{Setting, Taking, TookCell, Ready, TookUpTo, Running, Ran}
 pub use Rattle.spread.specs.Loop.{Turn}
 use Rattle.spread.specs.Promise.{grids, Spreads, Spread}
 use Rattle.spread.proofs.Lengths.{carried-length-kept}

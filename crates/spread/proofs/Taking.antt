@@ -11,7 +11,7 @@ use Rattle.cells.specs.declared.neighbours.Neighbours.{Neighbours}
 use Rattle.cells.specs.declared.ring.Ring.{Ring}
 use Rattle.cells.specs.declared.ring.Taken.{Taken}
 use Rattle.fifo.specs.Machine.{Net, label, scan, take}
-use Rattle.fifo.proofs.Induction.{awaiting, scan-append, take-is-scan}
+use Rattle.fifo.proofs.Induction.{awaiting, take-is-scan}
 use Rattle.rules.specs.Cells.{diagonal-neighbours}
 use Rattle.rules.specs.Sizes.{count}
 use Rattle.rules.specs.Values.{Carried}
@@ -24,7 +24,6 @@ use Rattle.spread.specs.Waiting.{Waiting, SomeWait, TookFirst}
 use Rattle.spread.specs.Buffers.{Buffers, buffers, Good, Holds, Does, scanning}
 use Rattle.spread.specs.Loop.{left-label, listed-steps, CanLeave, LeftCell, Scanning, Taking, TookCell}
 use Rattle.spread.proofs.Labels.{label-held}
-use Rattle.spread.proofs.Scans.{part, does-both}
 
 -- ---- the cell that is left
 

@@ -18,7 +18,7 @@ use Rattle.rules.specs.Sums.{plus-time-or-quarter}
 use Rattle.spread.specs.declared.search.Rule.{Rule}
 use Rattle.spread.specs.declared.search.Rule.the-variants.{Plain, Obstacles, HalfSum, Closest, ByTime, FromMaskCell, FromAmount}
 use Rattle.spread.specs.declared.search.Search.{Search}
-use Rattle.spread.specs.Nets.{sized, carries, reads-times}
+use Rattle.spread.specs.Nets.{sized, carries}
 
 -- What lies in the way: the obstacles, and the times of the cells.
 pub record Terrain : Type 0 where

@@ -5,7 +5,6 @@ use native.Mathlib.Omega.{arith}
 use lib.IntN.{natAbs}
 use lib.Signed.{mag}
 use mir.Syntax.{w32}
-use Rattle.rules.specs.Sizes.{count}
 use Rattle.cells.proofs.Bounds.{Bounded, bounded, read, cells-max, cast-fits, cast-is}
 use Rattle.cells.proofs.Interior.{around-below, around-above, around-lists}
 use Rattle.cells.proofs.neighbours.interior_neighbours.Statement.{statement}
