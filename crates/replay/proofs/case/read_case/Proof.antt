@@ -1,7 +1,8 @@
 -- `case::read_case` meets its contract. The answer's cells are within `bits`. Assumes nothing.
+use mathlib.Core.Path.{sym}
 use native.Mathlib.Omega.{arith}
 use borrow.Author.Needs.{needs}
-use Rattle.replay.proofs.Parts.{first}
+use lib.Seq.{length-take-le}
 use Rattle.replay.proofs.case.read_case.Statement.{statement}
 use Rattle.replay.proofs.case.read_case.Tie as tie
 
@@ -15,7 +16,7 @@ slice-relend-prefix-stored-answer : tie.Need-slice-relend-prefix-stored-answer
 slice-relend-prefix-stored-answer c = omega (arith, c .before .before .before .before .before .before .before .before .before .before .before .before .before .before .before .before .before .before .before .before .before .before .pre, c .before .before .before .before .before .before .before .before .before .read-grids .ensures .1 .1 .1 .1)
 
 slice-aggregate-stored-answer : tie.Need-slice-aggregate-stored-answer
-slice-aggregate-stored-answer c = first _ _ (slice-relend-prefix-stored-answer (c .before))
+slice-aggregate-stored-answer c = sym (length-take-le _ _ (slice-relend-prefix-stored-answer (c .before)))
 
 stored-answer-requires : tie.Need-stored-answer-requires
 stored-answer-requires c κs = search needs

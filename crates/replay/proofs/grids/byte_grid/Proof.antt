@@ -1,7 +1,8 @@
 -- `grids::byte_grid` meets its contract. Assumes nothing.
+use mathlib.Core.Path.{sym}
 use native.Mathlib.Omega.{arith}
 use borrow.Author.Needs.{needs}
-use Rattle.replay.proofs.Parts.{first}
+use lib.Seq.{length-take-le}
 use Rattle.replay.proofs.grids.byte_grid.Statement.{statement}
 use Rattle.replay.proofs.grids.byte_grid.Tie as tie
 
@@ -18,7 +19,7 @@ slice-relend-prefix-bytes : tie.Need-slice-relend-prefix-bytes
 slice-relend-prefix-bytes c = search needs
 
 slice-aggregate-bytes : tie.Need-slice-aggregate-bytes
-slice-aggregate-bytes c = first _ _ (omega arith)
+slice-aggregate-bytes c = sym (length-take-le _ _ (omega arith))
 
 bytes-requires : tie.Need-bytes-requires
 bytes-requires c κs = search needs

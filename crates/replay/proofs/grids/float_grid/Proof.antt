@@ -1,7 +1,8 @@
 -- `grids::float_grid` meets its contract. Assumes nothing.
+use mathlib.Core.Path.{sym}
 use native.Mathlib.Omega.{arith}
 use borrow.Author.Needs.{needs}
-use Rattle.replay.proofs.Parts.{first}
+use lib.Seq.{length-take-le}
 use Rattle.replay.proofs.grids.float_grid.Statement.{statement}
 use Rattle.replay.proofs.grids.float_grid.Tie as tie
 
@@ -18,7 +19,7 @@ slice-relend-prefix-float-cells : tie.Need-slice-relend-prefix-float-cells
 slice-relend-prefix-float-cells c = search needs
 
 slice-aggregate-float-cells : tie.Need-slice-aggregate-float-cells
-slice-aggregate-float-cells c = first _ _ (omega arith)
+slice-aggregate-float-cells c = sym (length-take-le _ _ (omega arith))
 
 float-cells-requires : tie.Need-float-cells-requires
 float-cells-requires c κs = search needs
