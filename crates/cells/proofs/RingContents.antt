@@ -47,10 +47,6 @@ gap-is len h t = go (decLe h t)
 -- ---- what follows from the cases, over plain numbers
 
 module _ {len h t : ℕ} (h-in : h < len) (t-in : t < len) where
-  gap-less : {g : ℕ} → GapIs len h t g → g < len
-  gap-less (inl ahead) = omega arith
-  gap-less (inr wrapped) = omega arith
-
   no-gap : {g : ℕ} → GapIs len h t g → g ≡ 0 → h ≡ t
   no-gap (inl ahead) e = omega arith
   no-gap (inr wrapped) e = omega arith
