@@ -3,19 +3,18 @@ use mathlib.Core.Bool.{false, true≢false}
 use mathlib.Core.List.{List, [], map}
 use mathlib.Core.Path.{_≡_, sym, ap, _∙_}
 use Prim.Native.Nat.{ℕ, suc, _*_}
-use lib.Dec.{T}
 use lib.Ieee.{Float}
 use lib.ListN.{length}
 use Rattle.fifo.specs.Machine.{Net, initial, trace, finish, takes-of}
 use Rattle.fifo.specs.Simulation.{Agrees}
-use Rattle.rules.specs.Sizes.{in-bounds, count}
+use Rattle.rules.specs.Sizes.{count}
 use Rattle.rules.specs.Values.{Carried}
 use Rattle.spread.specs.declared.search.Search.{Search}
 use Rattle.spread.specs.Nets.{carries, reads-targets}
 use Rattle.spread.specs.Steps.{terrain, avoids}
 use Rattle.spread.specs.Buffers.{Buffers}
 use Rattle.spread.specs.First.{net-on}
-use Rattle.spread.specs.Begin.{BeganTo}
+use Rattle.spread.specs.Begin.{Begins, BeganTo}
 use Rattle.spread.specs.Loop.{taken-at, Ran}
 use Rattle.spread.specs.Promise.{grids, Spreads}
 use Rattle.spread.proofs.Agrees.{RulesWithin, takes-within}
@@ -23,23 +22,23 @@ use Rattle.spread.proofs.Rules.{cells-are}
 use Rattle.spread.proofs.Finishing.{finishes}
 use Rattle.spread.proofs.Running.{begun-ready, spread-ends}
 use Rattle.spread.proofs.Results.{distances-are}
+use Rattle.sums.specs.Ways.{Ways}
 
--- A rule that reads the times alone, and with which nothing goes along, spreads where they are lent.
+-- A rule that reads the times alone, and with which nothing goes along, spreads from any start.
 pub spreads-by-times :
-    (search : Search) {times distances : List Float} {marks queue : List ℕ} (targets obstacles : List ℕ) (values carried : List Float)
+    (search : Search) {times distances : List Float} {marks queue : List ℕ} {from : ℕ → Net Float} (targets obstacles : List ℕ) (values carried : List Float)
     → reads-targets (search .rule) ≡ false → carries (search .rule) ≡ false → avoids (search .rule) ≡ false
-    → T (in-bounds (search .size)) → length times ≡ count (search .size) → length distances ≡ count (search .size)
-    → length marks ≡ count (search .size) → length queue ≡ suc (count (search .size))
+    → Ways (search .size) times from → length distances ≡ count (search .size) → length marks ≡ count (search .size) → length queue ≡ suc (count (search .size))
     → RulesWithin (count (search .size) * count (search .size)) (search .rule) search (grids targets obstacles times values)
     → Spreads search (grids targets obstacles times values) distances carried marks queue
-spreads-by-times search {times} targets obstacles values carried no-targets no-value no-obstacles bounds times-long distances-long marks-long queue-long within = record {
+spreads-by-times search {times} targets obstacles values carried no-targets no-value no-obstacles ways distances-long marks-long queue-long within = record {
   inputs = record {
-    bounds = bounds;
+    bounds = ways .bounds;
     targets-length = λ reads. absurd (true≢false (sym reads ∙ no-targets));
-    times-length = λ reads. times-long;
+    times-length = λ reads. ways .times-length;
     values-length = λ carrying. absurd (true≢false (sym carrying ∙ no-value));
   };
-  setting = record { bounds = bounds; obstacles-length = λ avoiding. absurd (true≢false (sym avoiding ∙ no-obstacles)); times-length = λ reads. times-long };
+  setting = record { bounds = ways .bounds; obstacles-length = λ avoiding. absurd (true≢false (sym avoiding ∙ no-obstacles)); times-length = λ reads. ways .times-length };
   lengths = record {
     distances-length = distances-long;
     carried-length = λ carrying. absurd (true≢false (sym carrying ∙ no-value));
@@ -48,6 +47,12 @@ spreads-by-times search {times} targets obstacles values carried no-targets no-v
   };
   within = takes-within (count (search .size) * count (search .size)) search (grids targets obstacles times values) within;
 }
+
+-- What is ready to spread is ready to begin.
+pub spreads-begin :
+    {search : Search} {targets obstacles : List ℕ} {times values distances carried : List Float} {marks queue : List ℕ}
+    → Spreads search (grids targets obstacles times values) distances carried marks queue → Begins search targets times values distances carried marks queue
+spreads-begin spreads = record { inputs = spreads .inputs; lengths = spreads .lengths }
 
 -- The net's search took r cells, these, and ended with these distances.
 pub record EndsAs (net : Net Float) (taken : List (ℕ × Float)) (distances : List Float) (r : ℕ) : Type 0 where

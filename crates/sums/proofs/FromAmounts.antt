@@ -24,7 +24,7 @@ use Rattle.spread.proofs.Running.{begun-ready, begun-runs}
 use Rattle.spread.proofs.Agrees.{amount-agrees}
 use Rattle.sums.specs.Gain.{Gaining, GainedAll}
 use Rattle.sums.specs.FromAmounts.{Lengths, Searching, SearchedAmount, SearchedCell, SearchingAll, SearchedAll}
-use Rattle.sums.proofs.Endings.{spreads-by-times, ends-as}
+use Rattle.sums.proofs.Endings.{spreads-by-times, spreads-begin, ends-as}
 use Rattle.sums.proofs.Starts.{runs-to, fold-next, total-next, total-fits, total-of-runs}
 
 -- ---- one amount
@@ -36,13 +36,10 @@ module _ (size : Size) (times : List Float) (limit : Float) (start : ℕ) where
   module _ {answer distances : List Float} {marks added queue : List ℕ} (asked : Searching size times limit answer distances marks added queue) where
     amount-spreads : (targets obstacles : List ℕ) (values carried : List Float) → Spreads amount-search (grids targets obstacles times values) distances carried marks queue
     amount-spreads targets obstacles values carried =
-        spreads-by-times amount-search targets obstacles values carried refl refl refl (asked .ways .bounds) (asked .ways .times-length)
-        (asked .lengths .distances-length) (asked .lengths .marks-length) (asked .lengths .queue-length) (asked .ways .within start)
+        spreads-by-times amount-search targets obstacles values carried refl refl refl (asked .ways) (asked .lengths .distances-length) (asked .lengths .marks-length) (asked .lengths .queue-length) (asked .ways .within start)
 
     pub amount-begins : (targets : List ℕ) (values carried : List Float) → Begins amount-search targets times values distances carried marks queue
-    amount-begins targets values carried =
-        let spreads = amount-spreads targets targets values carried in
-        record { inputs = spreads .inputs; lengths = spreads .lengths }
+    amount-begins targets values carried = spreads-begin (amount-spreads targets targets values carried)
 
     module _
         {targets obstacles : List ℕ} {values carried : List Float} {begun : Buffers}
@@ -141,7 +138,7 @@ module _ {size : Size} {times amounts : List Float} {limit : Float} where
       }
 
       pub sum-fits : i < count size → Fits w64 (total + r)
-      sum-fits inside = total-fits (counts (grid size amounts)) (from-amount (grid size times) limit) size (at .asked .ways .bounds) (at .asked .ways .within) i inside (at .counted) (found .counted)
+      sum-fits inside = total-fits (counts (grid size amounts)) (from-amount (grid size times) limit) (at .asked .ways) i inside (at .counted) (found .counted)
 
   pub all-summed :
       {answer distances : List Float} {marks added queue : List ℕ} {total : ℕ} → SummedTo size times amounts limit (count size) answer distances marks added queue total
@@ -150,5 +147,5 @@ module _ {size : Size} {times amounts : List Float} {limit : Float} where
   all-summed at = record {
     lengths = at .asked .lengths;
     gained = at .gained;
-    counted = at .counted ∙ total-of-runs (counts (grid size amounts)) (from-amount (grid size times) limit) size (at .asked .ways .bounds) (at .asked .ways .within);
+    counted = at .counted ∙ total-of-runs (counts (grid size amounts)) (from-amount (grid size times) limit) (at .asked .ways);
   }

@@ -1,5 +1,5 @@
 -- The search from one mask cell: the cells that it reached are those of the rules, and so is their sum. Assumes nothing.
-use mathlib.Core.Bool.{Bool, true, false, cond}
+use mathlib.Core.Bool.{Bool, true, false}
 use mathlib.Core.List.{List, []}
 use mathlib.Core.Path.{_≡_, refl, sym, ap, _∙_, subst}
 use Prim.Native.Nat.{ℕ, _*_}
@@ -29,7 +29,7 @@ use Rattle.reach.proofs.Around.{listing-beside}
 use Rattle.sums.specs.declared.listing.Reached.{Reached}
 use Rattle.sums.specs.Listed.{each-once, Lists, ListedAll}
 use Rattle.sums.specs.FromMask.{Reaching, run-from, ReachedFrom, SumReached, Summing, SummedFrom}
-use Rattle.sums.proofs.Endings.{EndsAs, spreads-by-times, ends-as}
+use Rattle.sums.proofs.Endings.{EndsAs, spreads-by-times, spreads-begin, ends-as}
 
 -- ---- the list
 
@@ -50,13 +50,10 @@ module _ (size : Size) (times : List Float) (start : ℕ) (limit : Float) where
   module _ {distances : List Float} {marks listed met queue : List ℕ} (asked : Reaching size times start distances marks listed met queue) where
     mask-spreads : (targets obstacles : List ℕ) (values carried : List Float) → Spreads mask-search (grids targets obstacles times values) distances carried marks queue
     mask-spreads targets obstacles values carried =
-        spreads-by-times mask-search targets obstacles values carried refl refl refl (asked .ways .bounds) (asked .ways .times-length)
-        (asked .lengths .distances-length) (asked .lengths .marks-length) (asked .lengths .queue-length) (asked .ways .within start)
+        spreads-by-times mask-search targets obstacles values carried refl refl refl (asked .ways) (asked .lengths .distances-length) (asked .lengths .marks-length) (asked .lengths .queue-length) (asked .ways .within start)
 
     pub mask-begins : (targets : List ℕ) (values carried : List Float) → Begins mask-search targets times values distances carried marks queue
-    mask-begins targets values carried =
-        let spreads = mask-spreads targets targets values carried in
-        record { inputs = spreads .inputs; lengths = spreads .lengths }
+    mask-begins targets values carried = spreads-begin (mask-spreads targets targets values carried)
 
     module _
         {targets obstacles : List ℕ} {values carried : List Float} {begun : Buffers}

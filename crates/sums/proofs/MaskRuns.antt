@@ -163,7 +163,7 @@ module _ {size : Size} {mask : List ℕ} {times values : List Float} {limit : Fl
       }
 
       pub takes-fit : i < count size → Fits w64 (total + r .takes)
-      takes-fit inside = total-fits (target (grid size mask)) (from-mask-cell (grid size times)) size (at .given .ways .bounds) (at .given .ways .within) i inside (at .counted) (found .counted)
+      takes-fit inside = total-fits (target (grid size mask)) (from-mask-cell (grid size times)) (at .given .ways) i inside (at .counted) (found .counted)
 
       -- The search from this cell is over the budget, those before it were not.
       pub mask-over : i < count size → r .over ≡ true → SearchedMask size mask times values limit include answer′ distances′ marks′ listed′ met′ queue′ (Over i)
@@ -188,7 +188,7 @@ module _ {size : Size} {mask : List ℕ} {times values : List Float} {limit : Fl
         answer-length = at .given .answer-length;
         lengths = at .given .lengths;
         outcome =
-            ap (λ t. accepted t answer) (at .counted ∙ total-of-runs (target (grid size mask)) (from-mask-cell (grid size times)) size (at .given .ways .bounds) (at .given .ways .within))
+            ap (λ t. accepted t answer) (at .counted ∙ total-of-runs (target (grid size mask)) (from-mask-cell (grid size times)) (at .given .ways))
             ∙ ap (accepted (total-takes all)) (at .answered)
             ∙ sym (ap (λ (j : Judged). unless j (λ search. accepted (total-takes all) (sums (grid size times) (grid size values) limit include all))) (at .none-over));
       }

@@ -5,7 +5,7 @@ use mathlib.Core.Path.{_≡_, refl, sym, ap, _∙_}
 use Prim.Native.Nat.{ℕ, suc, _+_, _-_, _*_, _≤_, _<_}
 use native.Mathlib.Nat.{zero-add, le-refl, mul-le-mul, lt-of-le-of-lt}
 use native.Mathlib.Omega.{arith}
-use lib.Dec.{T, lit<}
+use lib.Dec.{lit<}
 use lib.Ieee.{Float}
 use lib.ListN.{length}
 use mir.Syntax.{w64}
@@ -14,10 +14,11 @@ use Rattle.fifo.specs.Machine.{Net, passing, takes, takes-of}
 use Rattle.fifo.specs.Simulation.{Within}
 use Rattle.fifo.proofs.Lists.{passing-append, passing-last, length-passing}
 use Rattle.rules.specs.declared.Size.{Size}
-use Rattle.rules.specs.Sizes.{in-bounds, count}
+use Rattle.rules.specs.Sizes.{count}
 use Rattle.rules.specs.Sums.{Run, run-of, total-takes}
 use Rattle.rules.proofs.Inputs.{most-cells, cells-at-most}
 use Rattle.rules.proofs.Totals.{summed-takes, most-takes, within-most, summed-at-most, total-is-sum}
+use Rattle.sums.specs.Ways.{Ways}
 
 module _ (test : ℕ → Bool) (net : ℕ → Net Float) where
   -- The runs from those of the first i cells that pass the test.
@@ -65,14 +66,14 @@ module _ (test : ℕ → Bool) (net : ℕ → Net Float) where
       chosen true sum = refl
       chosen false sum = omega arith
 
-  module _ (size : Size) (bounds : T (in-bounds size)) (each : (start : ℕ) → Within (count size * count size) (net start)) where
+  module _ {size : Size} {times : List Float} (ways : Ways size times net) where
     few : count size ≤ most-cells
-    few = cells-at-most size bounds
+    few = cells-at-most size (ways .bounds)
 
     -- The search from one start takes at most the square.
     at-most : (start : ℕ) → takes-of (net start) ≤ most-takes
     unfolding takes-of
-    at-most start = within-most (each start (net start .cells * net start .cells)) few
+    at-most start = within-most (ways .within start (net start .cells * net start .cells)) few
 
     -- The total stays far below what 64 bits hold.
     pub total-fits :

@@ -2,17 +2,16 @@
 use mathlib.Core.Bool.{cond}
 use mathlib.Core.List.{List}
 use mathlib.Core.Path.{_≡_}
-use Prim.Native.Nat.{ℕ, suc, _*_, _<_}
-use lib.Dec.{T}
+use Prim.Native.Nat.{ℕ, suc, _<_}
 use lib.Ieee.{Float}
 use lib.ListN.{length, replicate}
 use Rattle.binary32.specs.Numbers.{plus-zero}
 use Rattle.fifo.specs.Machine.{takes-of}
-use Rattle.fifo.specs.Simulation.{Within}
 use Rattle.rules.specs.declared.Size.{Size}
-use Rattle.rules.specs.Sizes.{grid, in-bounds, count}
+use Rattle.rules.specs.Sizes.{grid, count}
 use Rattle.rules.specs.Distances.{float}
 use Rattle.rules.specs.Sums.{total-takes, from-amount, counts, runs-8, gaining, gain, gains}
+use Rattle.sums.specs.Ways.{Ways}
 
 -- The answer and the work buffers have their lengths, whatever they hold.
 pub record Lengths (size : Size) (answer distances : List Float) (marks added queue : List ℕ) : Type 0 where
@@ -22,14 +21,8 @@ pub record Lengths (size : Size) (answer distances : List Float) (marks added qu
   pub added-length : length added ≡ count size
   pub queue-length : length queue ≡ suc (count size)
 
--- The size is within the bounds, the times are lent, and from no start the search takes more than the square of the number of cells.
-pub record Ways (size : Size) (times : List Float) (limit : Float) : Type 0 where
-  pub bounds : T (in-bounds size)
-  pub times-length : length times ≡ count size
-  pub within : (start : ℕ) → Within (count size * count size) (from-amount (grid size times) limit start)
-
 pub record Searching (size : Size) (times : List Float) (limit : Float) (answer distances : List Float) (marks added queue : List ℕ) : Type 0 where
-  pub ways : Ways size times limit
+  pub ways : Ways size times (from-amount (grid size times) limit)
   pub lengths : Lengths size answer distances marks added queue
 
 -- Each cell that the search from one amount took within the budget has gained the amount.

@@ -2,17 +2,16 @@
 use mathlib.Core.Bool.{Bool}
 use mathlib.Core.List.{List}
 use mathlib.Core.Path.{_≡_}
-use Prim.Native.Nat.{ℕ, suc, _*_, _<_}
-use lib.Dec.{T}
+use Prim.Native.Nat.{ℕ, suc, _<_}
 use lib.Ieee.{Float}
 use lib.ListN.{length}
-use Rattle.fifo.specs.Simulation.{Within}
 use Rattle.rules.specs.declared.Size.{Size}
-use Rattle.rules.specs.Sizes.{grid, in-bounds, count}
+use Rattle.rules.specs.Sizes.{grid, count}
 use Rattle.rules.specs.Sums.{Run, run-of, from-mask-cell, listed, sum-listed, over-budget, sum-of}
 use Rattle.reach.specs.Listing.{Listing}
 use Rattle.sums.specs.declared.listing.Reached.{Reached}
 use Rattle.sums.specs.declared.mask_cell.MaskSum.{MaskSum}
+use Rattle.sums.specs.Ways.{Ways}
 
 -- The work buffers have their lengths, whatever they hold.
 pub record Lengths (size : Size) (distances : List Float) (marks listed met queue : List ℕ) : Type 0 where
@@ -22,14 +21,8 @@ pub record Lengths (size : Size) (distances : List Float) (marks listed met queu
   pub met-length : length met ≡ count size
   pub queue-length : length queue ≡ suc (count size)
 
--- The size is within the bounds, the times are lent, and from no start the search takes more than the square of the number of cells.
-pub record Ways (size : Size) (times : List Float) : Type 0 where
-  pub bounds : T (in-bounds size)
-  pub times-length : length times ≡ count size
-  pub within : (start : ℕ) → Within (count size * count size) (from-mask-cell (grid size times) start)
-
 pub record Reaching (size : Size) (times : List Float) (start : ℕ) (distances : List Float) (marks listed met queue : List ℕ) : Type 0 where
-  pub ways : Ways size times
+  pub ways : Ways size times (from-mask-cell (grid size times))
   pub lengths : Lengths size distances marks listed met queue
   pub inside : start < count size
 

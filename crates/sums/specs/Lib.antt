@@ -1,3 +1,4 @@
+pub mod Ways
 pub mod Gain
 pub mod FromAmounts
 pub mod Listed

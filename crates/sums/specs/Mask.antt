@@ -9,17 +9,18 @@ use Rattle.binary32.specs.Numbers.{plus-zero}
 use Rattle.rules.specs.declared.Size.{Size}
 use Rattle.rules.specs.Sizes.{grid, number-at, Outcome, refused, accepted, unless, count}
 use Rattle.rules.specs.Distances.{target}
-use Rattle.rules.specs.Sums.{total-takes, runs-7, over-budget, sum-of, sums, refusal-7}
+use Rattle.rules.specs.Sums.{total-takes, from-mask-cell, runs-7, over-budget, sum-of, sums, refusal-7}
 use Rattle.calls.specs.declared.answer.Answer.{Answer}
 use Rattle.calls.specs.Answer.{told, tell, answer-after}
 use Rattle.sums.specs.declared.mask.Searched.{Searched}
 use Rattle.sums.specs.declared.mask.Found.{Found}
 use Rattle.sums.specs.declared.mask.Found.the-variants.{All, Over}
-use Rattle.sums.specs.FromMask.{Lengths, Ways, run-from}
+use Rattle.sums.specs.Ways.{Ways}
+use Rattle.sums.specs.FromMask.{Lengths, run-from}
 
 -- The grids are lent, and the answer and the buffers.
 pub record Given (size : Size) (mask : List ℕ) (times values answer distances : List Float) (marks listed met queue : List ℕ) : Type 0 where
-  pub ways : Ways size times
+  pub ways : Ways size times (from-mask-cell (grid size times))
   pub mask-length : length mask ≡ count size
   pub values-length : length values ≡ count size
   pub answer-length : length answer ≡ count size
