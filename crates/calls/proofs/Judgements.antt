@@ -3,10 +3,10 @@ use mathlib.Core.Path.{_≡_, refl, sym, ap, _∙_, subst}
 use mathlib.Core.Bool.{Bool, true, false, cond}
 use mathlib.Core.List.{List, [], _∷_, _++_}
 use Prim.Native.Nat.{ℕ}
-use native.Mathlib.Omega.{arith}
 use lib.Ieee.{Float}
 use Rattle.rules.specs.declared.Size.{Size}
 use Rattle.rules.specs.Sizes.{Refusal, number, number-at, Judged, passes, stops, Lent, or-else, first-that-holds, any, first-index, shape, below-zero, negative-time}
+use Rattle.rules.proofs.Tests.{never}
 use Rattle.calls.specs.Answer as code
 use Rattle.calls.specs.Answer.{judged-as, Passes, Stops}
 
@@ -38,7 +38,7 @@ module _ {holds : Bool} {refusal : Refusal} {more : Tests} where
   passed comes = go holds (comes .is)
     where
       go : (b : Bool) → passes ≡ cond b (stops refusal) (first-that-holds more) → (b ≡ false) × Comes more passes
-      go true e = let never : _≡_ {A = ℕ} 0 1 = cc in absurd (omega arith)
+      go true e = never cc
       go false e = (refl, record { is = e })
 
 or-else-first : (holds : Bool) (refusal : Refusal) (both first later : Judged) → both ≡ or-else first later → cond holds (stops refusal) both ≡ or-else (cond holds (stops refusal) first) later

@@ -3,10 +3,10 @@ use mathlib.Core.Path.{_≡_, refl, sym, ap, _∙_, subst}
 use mathlib.Core.Bool.{false}
 use mathlib.Core.List.{List}
 use Prim.Native.Nat.{ℕ}
-use native.Mathlib.Omega.{arith}
 use lib.Ieee.{Float}
 use Rattle.rules.specs.Sizes as rules
 use Rattle.rules.specs.Sizes.{Judged, passes, stops, Outcome, accepted, unless}
+use Rattle.rules.proofs.Tests.{never}
 use Rattle.calls.specs.Answer as code
 use Rattle.calls.specs.Answer.{Answer, Refused, Passes, Stops, judged-as, refusal, takes, told, tell}
 use Rattle.calls.specs.Promise.{Slice, slice, Promised, Same}
@@ -59,7 +59,7 @@ pub takes-one : (t u : ℕ) → takes t ≡ takes u → t ≡ u
 takes-one t u e = cc
 
 pub refusal-no-takes : (r : rules.Refusal) (t : ℕ) → refusal r ≡ takes t → ⊥
-refusal-no-takes r t e = let never : _≡_ {A = ℕ} 0 1 = cc in omega arith
+refusal-no-takes r t e = never cc
 
 pub accepted-found :
     (refusals : Judged) (found : ℕ) (grid : List Float) {r : Answer} {answer : Slice Float} {marks queue : Slice ℕ} (t : ℕ)

@@ -1,6 +1,8 @@
--- Two tests of which the second is made only where the first asks for it, and what a test's answer says. Assumes nothing.
+-- Two tests of which the second is made only where the first asks for it, what cannot be, and what a test's answer says. Assumes nothing.
 use mathlib.Core.Bool.{Bool, true, false, not, cond, _&&_, _||_, false≢true, Bool·not-not}
 use mathlib.Core.Path.{_≡_, refl, sym, ap, _∙_, subst}
+use Prim.Native.Nat.{ℕ}
+use native.Mathlib.Omega.{arith}
 use borrow.Author.Tests.{not-true, not-false}
 use lib.Dec.{T}
 
@@ -61,6 +63,12 @@ chosen false x y t = absurd t
 -- Of two opposites each is the other's.
 pub opposite : (a b : Bool) → a ≡ not b → b ≡ not a
 opposite a b e = sym (Bool·not-not b) ∙ ap not (sym e)
+
+-- ---- what cannot be
+
+-- Anything, where an equation cannot be: `cc` finds 0 ≡ 1 in it.
+pub never : {A : Type 0} → _≡_ {A = ℕ} 0 1 → A
+never impossible = absurd (omega arith)
 
 -- ---- what an answer says of what it stands for
 

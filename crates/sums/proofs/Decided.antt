@@ -3,13 +3,13 @@ use mathlib.Core.Bool.{Bool}
 use mathlib.Core.List.{List}
 use mathlib.Core.Path.{_≡_, refl, sym, _∙_}
 use Prim.Native.Nat.{ℕ}
-use native.Mathlib.Omega.{arith}
 use lib.Dec.{T}
 use lib.Ieee.{Float, nan, binary32, fits}
 use lib.ListN.{getD}
 use Rattle.rules.specs.declared.Size.{Size}
 use Rattle.rules.specs.Sizes.{grid, Judged, passes, stops, accepted, unless}
 use Rattle.rules.specs.Sums.{total-takes, from-mask-cell, runs-7, sums, refusals-7, refusal-7, outcome-7, from-amount, runs-8, gains, refusals-8, outcome-8}
+use Rattle.rules.proofs.Tests.{never}
 use Rattle.rules.proofs.Inputs.{AcceptedTimes, AcceptedBudget}
 use Rattle.rules.proofs.Accepted.{accepted-7, accepted-8}
 use Rattle.rules.proofs.Squares.{mask-cell-ends, amount-ends}
@@ -33,8 +33,8 @@ pub record SameSums (r s : Answer) (answer₁ answer₂ distances₁ distances�
 -- Where the takes are told, neither the tests nor refusal 7 applied.
 told-past : (first second : Judged) (found : ℕ) (answer : List Float) (t : ℕ) → takes t ≡ tell (unless first (λ _. unless second (λ _. accepted found answer))) → (first ≡ passes) × (t ≡ found)
 told-past passes passes found answer t e = (refl, cc)
-told-past passes (stops refusal) found answer t e = absurd (let never : _≡_ {A = ℕ} 0 1 = cc in omega arith)
-told-past (stops refusal) second found answer t e = absurd (let never : _≡_ {A = ℕ} 0 1 = cc in omega arith)
+told-past passes (stops refusal) found answer t e = never cc
+told-past (stops refusal) second found answer t e = never cc
 
 module _ (mask-size : Size) (mask : List ℕ) (times-size : Size) (times : List Float) (values-size : Size) (values : List Float) (limit : Float) (include : Bool) where
   pub sum-within-decided :

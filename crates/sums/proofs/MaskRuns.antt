@@ -3,7 +3,6 @@ use mathlib.Core.Bool.{Bool, true, false, cond, false≢true}
 use mathlib.Core.List.{List, [], _∷_, _++_, map, map-append, foldl}
 use mathlib.Core.Path.{_≡_, refl, sym, ap, _∙_}
 use Prim.Native.Nat.{ℕ, _+_, _<_}
-use native.Mathlib.Omega.{arith}
 use lib.Ieee.{Float}
 use lib.ListN.{length, set, replicate, length-set}
 use mir.Syntax.{w64}
@@ -14,6 +13,7 @@ use Rattle.rules.specs.declared.Size.{Size}
 use Rattle.rules.specs.Sizes.{Grid, grid, Refusal, number-at, Judged, passes, stops, accepted, unless, first-that-holds, count}
 use Rattle.rules.specs.Distances.{target}
 use Rattle.rules.specs.Sums.{Run, run-of, total-takes, from-mask-cell, runs-7, over-budget, sum-of, sums, refusal-7}
+use Rattle.rules.proofs.Tests.{never}
 use Rattle.rules.proofs.Totals.{summed-takes}
 use Rattle.sums.specs.declared.mask_cell.MaskSum.{MaskSum}
 use Rattle.sums.specs.declared.mask.Searched.{Searched}
@@ -25,7 +25,7 @@ use Rattle.sums.proofs.Starts.{runs-to, runs-next, runs-split, fold-nex
 -- ---- refusal 7
 
 stopped-passes : (refusal : Refusal) → stops refusal ≡ passes → ⊥
-stopped-passes refusal e = let never : _≡_ {A = ℕ} 0 1 = cc in omega arith
+stopped-passes refusal e = never cc
 
 -- Where none of the first tests holds, the later ones decide.
 first-later : (tests more : List (Bool × Refusal)) → first-that-holds tests ≡ passes → first-that-holds (tests ++ more) ≡ first-that-holds more
