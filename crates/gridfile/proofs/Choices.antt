@@ -19,6 +19,11 @@ pub by-test : (P : Type 0) (test : Bool) → (test ≡ true → P) → (test ≡
 by-test P true holds fails = holds refl
 by-test P false holds fails = fails refl
 
+-- A choice that comes out as its second cannot is its first, and its test holds.
+pub chosen : {A : Type 0} (test : Bool) {x y outcome : A} → cond test x y ≡ outcome → (y ≡ outcome → ⊥) → (test ≡ true) × (x ≡ outcome)
+chosen true is other = (refl, is)
+chosen false is other = absurd (other is)
+
 -- Three choices in a row with the same way out are one.
 pub three-choices : {A : Type 0} (a b c : Bool) (x y : A) → cond a (cond b (cond c x y) y) y ≡ cond (a && b && c) x y
 three-choices true true c x y = refl
@@ -40,11 +45,11 @@ same-is (a ∷ rest) [] e = cc
 same-is (a ∷ rest) (b ∷ more) e = let both = and-both (eqb a b) (same rest more) e in let h = eqb-true a b (both .0) in let t = same-is rest more (both .1) in cc
 
 -- What holds of every row of the table of grids, and of no grids at all, holds of what a search has.
-pub table : (P : List ℕ → Type 0)
+pub for-grids : (P : List ℕ → Type 0)
     → P (0x04 ∷ []) → P (0x04 ∷ 0x05 ∷ []) → P (0x04 ∷ 0x06 ∷ []) → P (0x04 ∷ 0x07 ∷ []) → P (0x04 ∷ 0x06 ∷ 0x07 ∷ []) → P (0x06 ∷ 0x07 ∷ []) → P []
     → (search : ℕ) → P (grids-of search)
 unfolding grids-of
-table P of-1 of-2 of-3 of-4 of-567 of-8 of-none search =
+for-grids P of-1 of-2 of-3 of-4 of-567 of-8 of-none search =
     either P (eqb search 1) of-1
     (either P (eqb search 2) of-2
     (either P (eqb search 3) of-3

@@ -10,8 +10,8 @@ use lib.ListN.{length}
 use Rattle.gridfile.specs.Fields.{part, Field, field, Fields, cut, whole, and-then, fields-from, tags, rising, is-field}
 use Rattle.gridfile.specs.Request.{Head, Grids, Parsed, Good, Bad, grids-of, same, by-tag, head-of, head-fits, grids-fit, as-request, judged, parsed}
 use Rattle.gridfile.specs.Lookups.{long, stands-at, has-head, Found, Exactly, Breach, grids-in}
-use Rattle.rules.proofs.Tests.{and-both}
-use Rattle.gridfile.proofs.Choices.{by-test, three-choices, same-is, table}
+use Rattle.rules.proofs.Tests.{and-both, never}
+use Rattle.gridfile.proofs.Choices.{by-test, three-choices, same-is, for-grids}
 use Rattle.gridfile.proofs.Places.{look, looked-for}
 
 -- ---- the first three fields
@@ -43,7 +43,7 @@ pub stands-within : (file : List ℕ) (at tag len : ℕ) → stands-at file at t
 stands-within file at tag len e =
     looked-for file at tag (λ s. long len s ≡ true → at + 3 + len ≤ length file)
     (λ n room e′. let same = eqb-true n len e′ in omega arith)
-    (λ e′. let never : _≡_ {A = ℕ} 0 1 = cc in omega arith)
+    (λ e′. never cc)
     e
 
 pub head-within : (file : List ℕ) → has-head file ≡ true → 24 ≤ length file
@@ -123,7 +123,7 @@ module _ (file : List ℕ) where
   -- In every row of the table the tags rise.
   risen : (search : ℕ) → rising (0x01 ∷ 0x02 ∷ 0x03 ∷ grids-of search) ≡ true
   unfolding rising
-  risen search = table (λ ts. rising (0x01 ∷ 0x02 ∷ 0x03 ∷ ts) ≡ true) refl refl refl refl refl refl refl search
+  risen search = for-grids (λ ts. rising (0x01 ∷ 0x02 ∷ 0x03 ∷ ts) ≡ true) refl refl refl refl refl refl refl search
 
   -- Tags that are exactly the search's rise.
   rise : (ts : List ℕ) (search : ℕ) → same ts (grids-of search) ≡ true → rising (0x01 ∷ 0x02 ∷ 0x03 ∷ ts) ≡ true

@@ -1,19 +1,19 @@
 -- A file that keeps the form has at most 12,321 bytes: a program that has read more need not read on. Assumes nothing.
-use mathlib.Core.Path.{_≡_, refl, sym, ap, subst, _∙_}
+use mathlib.Core.Path.{_≡_, refl, ap, subst, _∙_}
 use mathlib.Core.Bool.{Bool, true, false, cond}
 use mathlib.Core.List.{List, [], _∷_}
-use Prim.Native.Nat.{ℕ, zero, suc, _+_, _*_, _%_, _≤_, _<_}
+use Prim.Native.Nat.{ℕ, zero, suc, _+_, _*_, _≤_, _<_}
 use native.Mathlib.Omega.{arith}
-use borrow.Author.Tests.{leb-true, eq-eqb}
-use lib.Dec.{leb, eqb}
+use borrow.Author.Tests.{eq-eqb}
+use lib.Dec.{eqb}
 use lib.ListN.{length, drop, length-drop}
 use Rattle.gridfile.specs.Fields.{Part, part, Field, field, Fields, cut, whole, and-then, fields-after, fields-from, content-of, tags}
-use Rattle.gridfile.specs.Request.{Grids, Request, Parsed, Good, Bad, grids-of, same, by-tag, small-bytes, small-floats, grids-fit, parsed}
-use Rattle.gridfile.specs.Lookups.{Exactly, Breach, grids-in}
-use Rattle.rules.proofs.Tests.{and-both}
-use Rattle.gridfile.proofs.Choices.{by-test, all-four, same-is, table}
+use Rattle.gridfile.specs.Request.{Grids, Request, Parsed, Good, Bad, grids-of, by-tag, grids-fit, parsed}
+use Rattle.gridfile.specs.Lookups.{Exactly, grids-in}
+use Rattle.rules.proofs.Tests.{never}
+use Rattle.gridfile.proofs.Choices.{same-is, for-grids}
 use Rattle.gridfile.proofs.Heads.{head-within}
-use Rattle.gridfile.proofs.Requests.{came}
+use Rattle.gridfile.proofs.Requests.{exactly-found, all-small, came}
 
 -- ---- bytes and fields
 
@@ -78,8 +78,8 @@ module _ (f : Field) (fields : List Field) (a : ℕ) (is : f .tag ≡ a) where
 -- and what another tag finds is among the others.
 few-bytes : (fields : List Field) (ts : List ℕ) → tags fields ≡ ts → Distinct ts → All-small fields ts → bytes-of fields ≤ 4099 * length ts
 few-bytes [] [] e apart small = omega arith
-few-bytes [] (a ∷ more) e apart small = let never : _≡_ {A = ℕ} 0 1 = cc in absurd (omega arith)
-few-bytes (f ∷ fields) [] e apart small = let never : _≡_ {A = ℕ} 0 1 = cc in absurd (omega arith)
+few-bytes [] (a ∷ more) e apart small = never cc
+few-bytes (f ∷ fields) [] e apart small = never cc
 few-bytes (f ∷ fields) (a ∷ more) e apart small =
     let is : f .tag ≡ a = cc in
     let are : tags fields ≡ more = cc in
@@ -93,7 +93,7 @@ grids-short :
     → content-of 0x04 fields .len ≤ 4096 → content-of 0x05 fields .len ≤ 4096 → content-of 0x06 fields .len ≤ 4096 → content-of 0x07 fields .len ≤ 4096
     → bytes-of fields ≤ 12297
 grids-short fields search are t o ti v =
-    table (λ ts. tags fields ≡ ts → bytes-of fields ≤ 12297)
+    for-grids (λ ts. tags fields ≡ ts → bytes-of fields ≤ 12297)
     (λ e. let few = few-bytes fields _ e (tt, tt) (t, tt) in omega arith)
     (λ e. let few = few-bytes fields _ e ((refl, tt), (tt, tt)) (t, (o, tt)) in omega arith)
     (λ e. let few = few-bytes fields _ e ((refl, tt), (tt, tt)) (t, (ti, tt)) in omega arith)
@@ -106,24 +106,13 @@ grids-short fields search are t o ti v =
 -- ---- files
 
 found-short : (search long : ℕ) (w : Fields) (g : Grids) → Spans 0 long w → grids-in search w ≡ Exactly g → grids-fit g ≡ true → long ≤ 12297
-unfolding grids-in grids-fit
-found-short search long cut g spans e fit = let never : _≡_ {A = ℕ} 0 1 = cc in absurd (omega arith)
-found-short search long (whole fields) g spans e fit =
-    by-test (long ≤ 12297) (same (tags fields) (grids-of search))
-    (λ exact.
-    let is : Exactly (by-tag fields) ≡ Exactly g = sym (ap (λ (t : Bool). cond t (Exactly (by-tag fields)) Breach) exact) ∙ e in
-    let is′ : by-tag fields ≡ g = cc in
-    let all : grids-fit (by-tag fields) ≡ true = ap grids-fit is′ ∙ fit in
-    let b = by-tag fields in
-    let small = all-four (small-bytes (b .targets)) (small-bytes (b .obstacles)) (small-floats (b .times)) (small-floats (b .values)) all in
-    let times = and-both (leb (b .times .len) 4096) (eqb (b .times .len % 4) 0) (small .2) in
-    let values = and-both (leb (b .values .len) 4096) (eqb (b .values .len % 4) 0) (small .3) in
-    let short = grids-short fields search (same-is (tags fields) (grids-of search) exact) (leb-true _ _ (small .0)) (leb-true _ _ (small .1)) (leb-true _ _ (times .0)) (leb-true _ _ (values .0)) in
-    omega arith)
-    (λ other.
-    let is : Breach ≡ Exactly g = sym (ap (λ (t : Bool). cond t (Exactly (by-tag fields)) Breach) other) ∙ e in
-    let never : _≡_ {A = ℕ} 0 1 = cc in
-    absurd (omega arith))
+found-short search long w g spans e fit =
+    let found = exactly-found search w g e in
+    let fields = found .fields in
+    let small = all-small (by-tag fields) (ap grids-fit (found .by-tags) ∙ fit) in
+    let short = grids-short fields search (same-is (tags fields) (grids-of search) (found .exact)) (small .targets) (small .obstacles) (small .times) (small .values) in
+    let spanned-by : long ≡ 0 + bytes-of fields = subst (Spans 0 long) (found .uncut) spans in
+    omega arith
 
 -- The longest file that keeps the form: 24 bytes, and three grid fields of 3 + 4,096.
 abbrev pub longest-file : ℕ

@@ -11,6 +11,7 @@ use lib.ListN.{length, drop, length-drop, drop-of-length-le}
 use lib.Seq.{drop-cons, drop-drop}
 use Rattle.gridfile.specs.Fields.{Part, part, Field, field, Fields, cut, whole, and-then, byte, u16-of, fields-after, fields-from}
 use Rattle.gridfile.specs.Lookups.{Sought, Content, Missing, field-at}
+use Rattle.rules.proofs.Tests.{never}
 use Rattle.gridfile.proofs.Choices.{by-test}
 
 -- Passing the rest of a field's content comes to starting after it.
@@ -123,5 +124,5 @@ pub content-within : (file : List ℕ) (at tag : ℕ) {p : Part} → field-at fi
 content-within file at tag {p} e =
     looked-for file at tag (λ s. s ≡ Content p → p .start + p .len ≤ length file)
     (λ n room e′. let same : part (at + 3) n ≡ p = cc in subst (λ (q : Part). q .start + q .len ≤ length file) same room)
-    (λ e′. let never : _≡_ {A = ℕ} 0 1 = cc in omega arith)
+    (λ e′. never cc)
     e

@@ -10,6 +10,7 @@ use lib.Seq.{drop-append-seam, take-append-seam, drop-at}
 use Rattle.gridfile.specs.Fields.{part, Field, field, Fields, cut, whole, and-then, fields-after, fields-of}
 use Rattle.gridfile.specs.Contents.{bytes-in}
 use Rattle.gridfile.specs.Answers.{little-endian, field-head}
+use Rattle.rules.proofs.Tests.{never}
 use Rattle.gridfile.proofs.Places.{passed}
 use Rattle.gridfile.proofs.Stores.{head-long}
 
@@ -103,7 +104,7 @@ module _ (tag low high at : ℕ) (bytes : List ℕ) (low-byte : low < 256) (high
   made-field : (w : Fields) (fields : List Field) → and-then (field tag (part (at + 3) len)) w ≡ whole fields
       → ((others : List Field) → w ≡ whole others → Made len (at + 3) bytes others) → Made 0 at (tag ∷ low ∷ high ∷ bytes) fields
   unfolding all-bytes placed little-endian
-  made-field cut fields e rest = let never : _≡_ {A = ℕ} 0 1 = cc in absurd (omega arith)
+  made-field cut fields e rest = never cc
   made-field (whole others) fields e rest =
       let m = rest others refl in
       let r : Raw = record { tag = tag; content = m .content } in
@@ -137,12 +138,12 @@ module _ (tag low high at : ℕ) (bytes : List ℕ) (low-byte : low < 256) (high
 made : (left at : ℕ) (bytes : List ℕ) (fields : List Field) → AllBytes bytes → fields-after left at bytes ≡ whole fields → Made left at bytes fields
 unfolding fields-after all-bytes placed
 made zero at [] fields all e = record { content = []; raws = []; long = refl; are = refl; stand = cc; short = tt }
-made zero at (tag ∷ []) fields all e = let never : _≡_ {A = ℕ} 0 1 = cc in absurd (omega arith)
-made zero at (tag ∷ low ∷ []) fields all e = let never : _≡_ {A = ℕ} 0 1 = cc in absurd (omega arith)
+made zero at (tag ∷ []) fields all e = never cc
+made zero at (tag ∷ low ∷ []) fields all e = never cc
 made zero at (tag ∷ low ∷ high ∷ bytes) fields all e =
     made-field tag low high at bytes (all .1 .0) (all .1 .1 .0) (fields-after (low + 256 * high) (at + 3) bytes) fields e
     (λ others e′. made (low + 256 * high) (at + 3) bytes others (all .1 .1 .1) e′)
-made (suc left) at [] fields all e = let never : _≡_ {A = ℕ} 0 1 = cc in absurd (omega arith)
+made (suc left) at [] fields all e = never cc
 made (suc left) at (b ∷ bytes) fields all e =
     let m = made left (suc at) bytes fields (all .1) e in
     let place : suc at + left ≡ at + suc left = omega arith in

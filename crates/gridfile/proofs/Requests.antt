@@ -1,6 +1,6 @@
 -- What a program may rely on in a request: it is proved from the definition, so that it holds of whatever meets the promise. Assumes nothing.
-use mathlib.Core.Path.{_≡_, refl, sym, ap, subst, _∙_}
-use mathlib.Core.Bool.{Bool, true, cond, _&&_}
+use mathlib.Core.Path.{_≡_, refl, sym, subst, _∙_}
+use mathlib.Core.Bool.{Bool, true, _&&_}
 use mathlib.Core.List.{List, [], _∷_}
 use Prim.Native.Nat.{ℕ, zero, suc, _+_, _*_, _%_, _≤_}
 use native.Mathlib.Omega.{arith}
@@ -11,10 +11,10 @@ use lib.Signed.{mag}
 use lib.ListN.{length, drop, length-drop}
 use Rattle.rules.specs.Sizes.{count}
 use Rattle.gridfile.specs.Fields.{Part, part, Field, field, Fields, cut, whole, and-then, fields-after, fields-from, content-of, tags}
-use Rattle.gridfile.specs.Request.{Head, Grids, Request, Parsed, Good, Bad, grids-of, same, by-tag, head-of, flags-fit, numbers-fit, few-cells, head-fits, small-bytes, small-floats, grids-fit, as-request, parsed}
+use Rattle.gridfile.specs.Request.{Head, Grids, Request, Good, grids-of, same, by-tag, head-of, flags-fit, numbers-fit, few-cells, head-fits, small-bytes, small-floats, grids-fit, as-request, parsed}
 use Rattle.gridfile.specs.Lookups.{has-head, Found, Exactly, Breach, grids-in}
-use Rattle.rules.proofs.Tests.{and-both}
-use Rattle.gridfile.proofs.Choices.{by-test, either, all-four}
+use Rattle.rules.proofs.Tests.{and-both, never}
+use Rattle.gridfile.proofs.Choices.{by-test, chosen, either, all-four}
 use Rattle.gridfile.proofs.Places.{cut-short}
 use Rattle.gridfile.proofs.Heads.{requested, as-judged, head-within}
 
@@ -86,26 +86,57 @@ pub record All-inside (file : List ℕ) (g : Grids) : Type 0 where
   pub times : Inside file (g .times)
   pub values : Inside file (g .values)
 
-found-inside : (file : List ℕ) (search : ℕ) (w : Fields) (g : Grids) → Ends (length file) w → grids-in search w ≡ Exactly g → All-inside file g
+-- Grids that were found are fields, none of them cut, that have exactly the search's tags, and each grid is the one of its tag.
+pub record FoundIn (search : ℕ) (w : Fields) (g : Grids) : Type 0 where
+  pub fields : List Field
+  pub uncut : w ≡ whole fields
+  pub exact : same (tags fields) (grids-of search) ≡ true
+  pub by-tags : by-tag fields ≡ g
+
+pub exactly-found : (search : ℕ) (w : Fields) (g : Grids) → grids-in search w ≡ Exactly g → FoundIn search w g
 unfolding grids-in
-found-inside file search cut g ends e = let never : _≡_ {A = ℕ} 0 1 = cc in absurd (omega arith)
-found-inside file search (whole fields) g ends e =
-    by-test (All-inside file g) (same (tags fields) (grids-of search))
-    (λ exact.
-    let is : Exactly (by-tag fields) ≡ Exactly g = sym (ap (λ (t : Bool). cond t (Exactly (by-tag fields)) Breach) exact) ∙ e in
-    let is′ : by-tag fields ≡ g = cc in
-    subst (All-inside file) is′ (record {
-      targets = content-ends (length file) 0x04 fields ends;
-      obstacles = content-ends (length file) 0x05 fields ends;
-      times = content-ends (length file) 0x06 fields ends;
-      values = content-ends (length file) 0x07 fields ends;
-    }))
-    (λ other.
-    let is : Breach ≡ Exactly g = sym (ap (λ (t : Bool). cond t (Exactly (by-tag fields)) Breach) other) ∙ e in
-    let never : _≡_ {A = ℕ} 0 1 = cc in
-    absurd (omega arith))
+exactly-found search cut g e = never cc
+exactly-found search (whole fields) g e =
+    let passed = chosen (same (tags fields) (grids-of search)) e (λ is. never cc) in
+    let is : Exactly (by-tag fields) ≡ Exactly g = passed .1 in
+    record { fields = fields; uncut = refl; exact = passed .0; by-tags = cc }
+
+found-inside : (file : List ℕ) (search : ℕ) (w : Fields) (g : Grids) → Ends (length file) w → grids-in search w ≡ Exactly g → All-inside file g
+found-inside file search w g ends e =
+    let found = exactly-found search w g e in
+    let all = subst (Ends (length file)) (found .uncut) ends in
+    subst (All-inside file) (found .by-tags) (record {
+      targets = content-ends (length file) 0x04 (found .fields) all;
+      obstacles = content-ends (length file) 0x05 (found .fields) all;
+      times = content-ends (length file) 0x06 (found .fields) all;
+      values = content-ends (length file) 0x07 (found .fields) all;
+    })
 
 -- ---- a file that is accepted
+
+-- The lengths that the grids of a file may have.
+pub record AllSmall (g : Grids) : Type 0 where
+  pub targets : g .targets .len ≤ 4096
+  pub obstacles : g .obstacles .len ≤ 4096
+  pub times : g .times .len ≤ 4096
+  pub values : g .values .len ≤ 4096
+  pub times-fours : g .times .len % 4 ≡ 0
+  pub values-fours : g .values .len % 4 ≡ 0
+
+pub all-small : (g : Grids) → grids-fit g ≡ true → AllSmall g
+unfolding grids-fit
+all-small g fit =
+    let small = all-four (small-bytes (g .targets)) (small-bytes (g .obstacles)) (small-floats (g .times)) (small-floats (g .values)) fit in
+    let times = and-both (small-bytes (g .times)) (eqb (g .times .len % 4) 0) (small .2) in
+    let values = and-both (small-bytes (g .values)) (eqb (g .values .len % 4) 0) (small .3) in
+    record {
+      targets = leb-true _ _ (small .0);
+      obstacles = leb-true _ _ (small .1);
+      times = leb-true _ _ (times .0);
+      values = leb-true _ _ (values .0);
+      times-fours = eqb-true _ _ (times .1);
+      values-fours = eqb-true _ _ (values .1);
+    }
 
 in-range : (a b c d e f : Bool) → a && b && c && d && e && f ≡ true → (a ≡ true) × (b ≡ true)
 in-range a b c d e f all = and-both a b (all-four (a && b) c d e (and-both (a && b && c && d && e) f all .0) .0)
@@ -123,28 +154,18 @@ module _ (file : List ℕ) where
     pub is : r ≡ as-request head (r .grids)
 
   came-from : (r : Request) (found : Found) → has-head file ≡ true → grids-in (head .search) (fields-from file 24) ≡ found → requested head found ≡ Good r → Came r
-  came-from r Breach begins exact e = let never : _≡_ {A = ℕ} 0 1 = cc in absurd (omega arith)
+  came-from r Breach begins exact e = never cc
   came-from r (Exactly g) begins exact e =
-      by-test (Came r) (head-fits head && grids-fit g)
-      (λ fit.
-      let both = and-both (head-fits head) (grids-fit g) fit in
-      let is : Good (as-request head g) ≡ Good r = sym (ap (λ (t : Bool). cond t (Good (as-request head g)) Bad) fit) ∙ e in
+      let passed = chosen (head-fits head && grids-fit g) e (λ is. never cc) in
+      let both = and-both (head-fits head) (grids-fit g) (passed .0) in
+      let is : Good (as-request head g) ≡ Good r = passed .1 in
       let is′ : as-request head g ≡ r = cc in
-      subst Came is′ (record { begins = begins; exact = exact; fits = both .0; small = both .1; is = refl }))
-      (λ unfit.
-      let is : Bad ≡ Good r = sym (ap (λ (t : Bool). cond t (Good (as-request head g)) Bad) unfit) ∙ e in
-      let never : _≡_ {A = ℕ} 0 1 = cc in
-      absurd (omega arith))
+      subst Came is′ (record { begins = begins; exact = exact; fits = both .0; small = both .1; is = refl })
 
   pub came : (r : Request) → parsed file ≡ Good r → Came r
   came r e =
-      let rest : Parsed = requested head (grids-in (head .search) (fields-from file 24)) in
-      by-test (Came r) (has-head file)
-      (λ begins. came-from r (grids-in (head .search) (fields-from file 24)) begins refl (sym (ap (λ (t : Bool). cond t rest Bad) begins) ∙ sym (as-judged file) ∙ e))
-      (λ other.
-      let is : Bad ≡ Good r = sym (ap (λ (t : Bool). cond t rest Bad) other) ∙ sym (as-judged file) ∙ e in
-      let never : _≡_ {A = ℕ} 0 1 = cc in
-      absurd (omega arith))
+      let passed = chosen (has-head file) (sym (as-judged file) ∙ e) (λ is. never cc) in
+      came-from r (grids-in (head .search) (fields-from file 24)) (passed .0) refl (passed .1)
 
   -- The tests that the head passed.
   head-passed : head-fits head ≡ true → (1 ≤ head .search) × (head .search ≤ 8) × (head .rows * head .cols ≤ 1024)
@@ -159,24 +180,21 @@ module _ (file : List ℕ) where
 
   -- What a program may rely on.
   pub usable : (r : Request) → parsed file ≡ Good r → Usable file r
-  unfolding grids-fit
   usable r e =
       let c = came r e in
       let g = r .grids in
       let ends = fields-end (length file) 0 24 (drop 24 file) (let room = head-within file (c .begins) in omega (arith, length-drop 24 file)) in
       let inside = found-inside file (head .search) (fields-from file 24) g ends (c .exact) in
       let numbers = head-passed (c .fits) in
-      let small = all-four (small-bytes (g .targets)) (small-bytes (g .obstacles)) (small-floats (g .times)) (small-floats (g .values)) (c .small) in
-      let times = and-both (leb (g .times .len) 4096) (eqb (g .times .len % 4) 0) (small .2) in
-      let values = and-both (leb (g .values .len) 4096) (eqb (g .values .len % 4) 0) (small .3) in
+      let small = all-small g (c .small) in
       record {
         search-from = subst (λ (q : Request). 1 ≤ q .search) (sym (c .is)) (numbers .0);
         search-to = subst (λ (q : Request). q .search ≤ 8) (sym (c .is)) (numbers .1);
         rows-natural = subst (λ (q : Request). q .size .rows ≡ pos (mag (q .size .rows))) (sym (c .is)) refl;
         cols-natural = subst (λ (q : Request). q .size .cols ≡ pos (mag (q .size .cols))) (sym (c .is)) refl;
         few = subst (λ (q : Request). count (q .size) ≤ 1024) (sym (c .is)) (numbers .2);
-        targets = record { inside = inside .targets; small = leb-true _ _ (small .0) };
-        obstacles = record { inside = inside .obstacles; small = leb-true _ _ (small .1) };
-        times = record { inside = inside .times; small = leb-true _ _ (times .0); fours = eqb-true _ _ (times .1) };
-        values = record { inside = inside .values; small = leb-true _ _ (values .0); fours = eqb-true _ _ (values .1) };
+        targets = record { inside = inside .targets; small = small .targets };
+        obstacles = record { inside = inside .obstacles; small = small .obstacles };
+        times = record { inside = inside .times; small = small .times; fours = small .times-fours };
+        values = record { inside = inside .values; small = small .values; fours = small .values-fours };
       }

@@ -11,7 +11,8 @@ use Rattle.gridfile.specs.Fields.{Part, part, Field, field, Fields, cut,
 use Rattle.gridfile.specs.Request.{Grids, grids-of, same, by-tag, among}
 use Rattle.gridfile.specs.Lookups.{Sought, Content, Missing, field-at, Has, Found, Exactly, Breach, Next, has-of, then-next, next-grid, grids-in}
 use Rattle.gridfile.specs.declared.grids.Next.the-variants as next
-use Rattle.gridfile.proofs.Choices.{by-test, same-is, table}
+use Rattle.rules.proofs.Tests.{never}
+use Rattle.gridfile.proofs.Choices.{by-test, same-is, for-grids}
 use Rattle.gridfile.proofs.Places.{look, looked-for, some-left, none-left}
 
 contents : List Field → List Part
@@ -117,7 +118,7 @@ module _ (file : List ℕ) where
   -- Row by row of the table, the steps are those of the tags in it.
   in-steps : (search at : ℕ) → one-by-one (grids-of search) at (placed (grids-of search)) ≡ steps (has-of (grids-of search)) at
   unfolding one-by-one then-grid paired content-of among
-  in-steps search at = table (λ ts. one-by-one ts at (placed ts) ≡ steps (has-of ts) at) refl refl refl refl refl refl refl search
+  in-steps search at = for-grids (λ ts. one-by-one ts at (placed ts) ≡ steps (has-of ts) at) refl refl refl refl refl refl refl search
 
   -- Fields of exactly these tags are found by tag as they are found by place.
   placed-exactly : (ts : List ℕ) (w : Fields) (search : ℕ) → grids-of search ≡ ts → grids-in search w ≡ exactly ts (placed ts) w
@@ -158,7 +159,7 @@ module _ (file : List ℕ) where
   ends-within at tag true {p} {n} within e =
       looked-for file at tag (λ s. then-next s ≡ next.Grid p n → n ≤ length file)
       (λ m room e′. let same : at + 3 + m ≡ n = cc in omega arith)
-      (λ e′. let never : _≡_ {A = ℕ} 0 1 = cc in omega arith)
+      (λ e′. never cc)
       e
 
 -- What is found from a place on is what the rest of the steps finds from another.
