@@ -1,7 +1,7 @@
 -- Files and what the definitions read in them, and answers and their bytes: all of it computed. Assumes nothing.
 use mathlib.Core.Path.{_≡_, refl}
 use mathlib.Core.Bool.{true, false}
-use mathlib.Core.List.{List, [], _∷_, _++_}
+use mathlib.Core.List.{List, [], _∷_, _++_, map}
 use Prim.Native.Nat.{ℕ}
 use lib.IntN.{pos}
 use lib.ListN.{length, replicate}
@@ -22,45 +22,45 @@ file-computing = tt
 
 -- ---- how the cases are written
 
-abbrev Bytes : Type 0
+abbrev pub Bytes : Type 0
 Bytes = List ℕ
 
 -- A field, and the three that every file has: 01 with its three bytes, 02 with two u16, 03 with two f32.
-abbrev f : ℕ → Bytes → Bytes
-f tag content = field-head tag (length content) ++ content
+abbrev pub field-bytes : ℕ → Bytes → Bytes
+field-bytes tag content = field-head tag (length content) ++ content
 
 abbrev sized : ℕ → ℕ → Bytes
-sized rows cols = f 0x02 (little-endian 2 rows ++ little-endian 2 cols)
+sized rows cols = field-bytes 0x02 (little-endian 2 rows ++ little-endian 2 cols)
 
 abbrev numbers : ℕ → ℕ → Bytes
-numbers cell-size limit = f 0x03 (little-endian 4 cell-size ++ little-endian 4 limit)
+numbers cell-size limit = field-bytes 0x03 (little-endian 4 cell-size ++ little-endian 4 limit)
 
 -- A file of a search on a grid of 1 by 2 cells, with zeros for the flags and the numbers.
 abbrev plain : ℕ → Bytes → Bytes
-plain search grids = f 0x01 (search ∷ 0 ∷ 0 ∷ []) ++ sized 1 2 ++ numbers 0 0 ++ grids
+plain search grids = field-bytes 0x01 (search ∷ 0 ∷ 0 ∷ []) ++ sized 1 2 ++ numbers 0 0 ++ grids
 
 -- One of search 1 with other flags, size or numbers.
 abbrev with-flags : ℕ → ℕ → ℕ → Bytes
-with-flags search diagonals adjacent = f 0x01 (search ∷ diagonals ∷ adjacent ∷ []) ++ sized 1 2 ++ numbers 0 0 ++ f 0x04 (1 ∷ 0 ∷ [])
+with-flags search diagonals adjacent = field-bytes 0x01 (search ∷ diagonals ∷ adjacent ∷ []) ++ sized 1 2 ++ numbers 0 0 ++ field-bytes 0x04 (1 ∷ 0 ∷ [])
 
 abbrev with-size : ℕ → ℕ → Bytes
-with-size rows cols = f 0x01 (1 ∷ 0 ∷ 0 ∷ []) ++ sized rows cols ++ numbers 0 0 ++ f 0x04 (1 ∷ 0 ∷ [])
+with-size rows cols = field-bytes 0x01 (1 ∷ 0 ∷ 0 ∷ []) ++ sized rows cols ++ numbers 0 0 ++ field-bytes 0x04 (1 ∷ 0 ∷ [])
 
 abbrev with-numbers : ℕ → ℕ → ℕ → Bytes → Bytes
-with-numbers search cell-size limit grids = f 0x01 (search ∷ 0 ∷ 0 ∷ []) ++ sized 1 2 ++ numbers cell-size limit ++ grids
+with-numbers search cell-size limit grids = field-bytes 0x01 (search ∷ 0 ∷ 0 ∷ []) ++ sized 1 2 ++ numbers cell-size limit ++ grids
 
 abbrev targets : Bytes
-targets = f 0x04 (1 ∷ 0 ∷ [])
+targets = field-bytes 0x04 (1 ∷ 0 ∷ [])
 
 abbrev obstacles : Bytes
-obstacles = f 0x05 (0 ∷ 255 ∷ [])
+obstacles = field-bytes 0x05 (0 ∷ 255 ∷ [])
 
 -- 1.0 and NaN with its sign and a payload; 2.0 and minus zero.
 abbrev times : Bytes
-times = f 0x06 (0x00 ∷ 0x00 ∷ 0x80 ∷ 0x3f ∷ 0x01 ∷ 0x00 ∷ 0xc0 ∷ 0xff ∷ [])
+times = field-bytes 0x06 (0x00 ∷ 0x00 ∷ 0x80 ∷ 0x3f ∷ 0x01 ∷ 0x00 ∷ 0xc0 ∷ 0xff ∷ [])
 
 abbrev values : Bytes
-values = f 0x07 (0x00 ∷ 0x00 ∷ 0x00 ∷ 0x40 ∷ 0x00 ∷ 0x00 ∷ 0x00 ∷ 0x80 ∷ [])
+values = field-bytes 0x07 (0x00 ∷ 0x00 ∷ 0x00 ∷ 0x40 ∷ 0x00 ∷ 0x00 ∷ 0x00 ∷ 0x80 ∷ [])
 
 abbrev float : ℕ → Float
 float bits = ofBits binary32 bits
@@ -77,23 +77,15 @@ asks-plain search ts os times values = asks search Include false (size 1 2) (spa
 abbrev Entry : Type 0
 Entry = Bytes × Asked
 
-abbrev all-read : List Entry → List Asked
-all-read [] = []
-all-read ((file, said) ∷ rest) = asked file ∷ all-read rest
-
-abbrev all-said : List Entry → List Asked
-all-said [] = []
-all-said ((file, said) ∷ rest) = said ∷ all-said rest
-
 -- ---- accepted
 
 -- Document 01's whole case.
-abbrev whole-case : Bytes
-whole-case = 0x01 ∷ 0x03 ∷ 0x00 ∷ 0x02 ∷ 0x00 ∷ 0x00 ∷ 0x02 ∷ 0x04 ∷ 0x00 ∷ 0x02 ∷ 0x00 ∷ 0x02 ∷ 0x00 ∷ 0x03 ∷ 0x08 ∷ 0x00 ∷ 0x00 ∷ 0x00 ∷ 0x20 ∷ 0x41 ∷ 0x00 ∷ 0x00 ∷ 0x00 ∷ 0x00 ∷ 0x04 ∷ 0x04 ∷ 0x00 ∷ 0x01 ∷ 0x00 ∷ 0x00 ∷ 0x00 ∷ 0x05 ∷ 0x04 ∷ 0x00 ∷ 0x00 ∷ 0x01 ∷ 0x01 ∷ 0x00 ∷ []
+abbrev pub case-file : Bytes
+case-file = 0x01 ∷ 0x03 ∷ 0x00 ∷ 0x02 ∷ 0x00 ∷ 0x00 ∷ 0x02 ∷ 0x04 ∷ 0x00 ∷ 0x02 ∷ 0x00 ∷ 0x02 ∷ 0x00 ∷ 0x03 ∷ 0x08 ∷ 0x00 ∷ 0x00 ∷ 0x00 ∷ 0x20 ∷ 0x41 ∷ 0x00 ∷ 0x00 ∷ 0x00 ∷ 0x00 ∷ 0x04 ∷ 0x04 ∷ 0x00 ∷ 0x01 ∷ 0x00 ∷ 0x00 ∷ 0x00 ∷ 0x05 ∷ 0x04 ∷ 0x00 ∷ 0x00 ∷ 0x01 ∷ 0x01 ∷ 0x00 ∷ []
 
 abbrev good-files : List Entry
 good-files =
-    (whole-case, asks 2 Include false (size 2 2) (spacing 0x4120_0000 0) (1 ∷ 0 ∷ 0 ∷ 0 ∷ []) (0 ∷ 1 ∷ 1 ∷ 0 ∷ []) [] []) ∷
+    (case-file, asks 2 Include false (size 2 2) (spacing 0x4120_0000 0) (1 ∷ 0 ∷ 0 ∷ 0 ∷ []) (0 ∷ 1 ∷ 1 ∷ 0 ∷ []) [] []) ∷
     -- each search has its grids
     (plain 1 targets, asks-plain 1 (1 ∷ 0 ∷ []) [] [] []) ∷
     (plain 2 (targets ++ obstacles), asks-plain 2 (1 ∷ 0 ∷ []) (0 ∷ 255 ∷ []) [] []) ∷
@@ -109,27 +101,19 @@ good-files =
     -- any bits are a number that is used
     (with-numbers 1 0x8000_0000 0xffff_ffff targets, asks 1 Include false (size 1 2) (spacing 0x8000_0000 0x7fc0_0000) (1 ∷ 0 ∷ []) [] [] []) ∷
     -- lengths other than n are for the library to refuse, and so are sides that it does not have
-    (plain 1 (f 0x04 []), asks-plain 1 [] [] [] []) ∷
-    (plain 1 (f 0x04 (1 ∷ 2 ∷ 3 ∷ [])), asks-plain 1 (1 ∷ 2 ∷ 3 ∷ []) [] [] []) ∷
-    (plain 3 (targets ++ f 0x06 (0x00 ∷ 0x00 ∷ 0x80 ∷ 0x3f ∷ [])), asks-plain 3 (1 ∷ 0 ∷ []) [] (float 0x3f80_0000 ∷ []) []) ∷
+    (plain 1 (field-bytes 0x04 []), asks-plain 1 [] [] [] []) ∷
+    (plain 1 (field-bytes 0x04 (1 ∷ 2 ∷ 3 ∷ [])), asks-plain 1 (1 ∷ 2 ∷ 3 ∷ []) [] [] []) ∷
+    (plain 3 (targets ++ field-bytes 0x06 (0x00 ∷ 0x00 ∷ 0x80 ∷ 0x3f ∷ [])), asks-plain 3 (1 ∷ 0 ∷ []) [] (float 0x3f80_0000 ∷ []) []) ∷
     (with-size 0 32768, asks 1 Include false (size 0 32768) (spacing 0 0) (1 ∷ 0 ∷ []) [] [] []) ∷
     (with-size 65535 0, asks 1 Include false (size 65535 0) (spacing 0 0) (1 ∷ 0 ∷ []) [] [] []) ∷
     (with-size 1 1024, asks 1 Include false (size 1 1024) (spacing 0 0) (1 ∷ 0 ∷ []) [] [] []) ∷
-    (plain 1 (f 0x04 (replicate 4096 7)), asks-plain 1 (replicate 4096 7) [] [] []) ∷ []
+    (plain 1 (field-bytes 0x04 (replicate 4096 7)), asks-plain 1 (replicate 4096 7) [] [] []) ∷ []
 
-pub read : all-read good-files ≡ all-said good-files
+pub good-files-read : map (λ (e : Entry). asked (e .0)) good-files ≡ map (λ (e : Entry). e .1) good-files
 unfolding file-computing
-read = refl
+good-files-read = refl
 
 -- ---- refusal 8
-
-abbrev all-refused : List Bytes → List Asked
-all-refused [] = []
-all-refused (file ∷ rest) = refuses (number 8) ∷ all-refused rest
-
-abbrev all-asked : List Bytes → List Asked
-all-asked [] = []
-all-asked (file ∷ rest) = asked file ∷ all-asked rest
 
 abbrev zeros : ℕ → Bytes
 zeros n = replicate n 0
@@ -139,16 +123,16 @@ bad-files =
     -- 01, 02, 03 always
     [] ∷
     (sized 1 2 ++ numbers 0 0 ++ targets) ∷
-    (f 0x01 (1 ∷ 0 ∷ 0 ∷ []) ++ numbers 0 0 ++ targets) ∷
-    (f 0x01 (1 ∷ 0 ∷ 0 ∷ []) ++ sized 1 2 ++ targets) ∷
-    f 0x01 (1 ∷ 0 ∷ 0 ∷ []) ∷
+    (field-bytes 0x01 (1 ∷ 0 ∷ 0 ∷ []) ++ numbers 0 0 ++ targets) ∷
+    (field-bytes 0x01 (1 ∷ 0 ∷ 0 ∷ []) ++ sized 1 2 ++ targets) ∷
+    field-bytes 0x01 (1 ∷ 0 ∷ 0 ∷ []) ∷
     -- of 3, 4 and 8 bytes
-    (f 0x01 (1 ∷ 0 ∷ []) ++ sized 1 2 ++ numbers 0 0 ++ targets) ∷
-    (f 0x01 (1 ∷ 0 ∷ 0 ∷ 0 ∷ []) ++ sized 1 2 ++ numbers 0 0 ++ targets) ∷
-    (f 0x01 (1 ∷ 0 ∷ 0 ∷ []) ++ f 0x02 (1 ∷ 0 ∷ 2 ∷ []) ++ numbers 0 0 ++ targets) ∷
-    (f 0x01 (1 ∷ 0 ∷ 0 ∷ []) ++ sized 1 2 ++ f 0x03 (zeros 4) ++ targets) ∷
+    (field-bytes 0x01 (1 ∷ 0 ∷ []) ++ sized 1 2 ++ numbers 0 0 ++ targets) ∷
+    (field-bytes 0x01 (1 ∷ 0 ∷ 0 ∷ 0 ∷ []) ++ sized 1 2 ++ numbers 0 0 ++ targets) ∷
+    (field-bytes 0x01 (1 ∷ 0 ∷ 0 ∷ []) ++ field-bytes 0x02 (1 ∷ 0 ∷ 2 ∷ []) ++ numbers 0 0 ++ targets) ∷
+    (field-bytes 0x01 (1 ∷ 0 ∷ 0 ∷ []) ++ sized 1 2 ++ field-bytes 0x03 (zeros 4) ++ targets) ∷
     -- tags rise
-    (sized 1 2 ++ f 0x01 (1 ∷ 0 ∷ 0 ∷ []) ++ numbers 0 0 ++ targets) ∷
+    (sized 1 2 ++ field-bytes 0x01 (1 ∷ 0 ∷ 0 ∷ []) ++ numbers 0 0 ++ targets) ∷
     plain 2 (obstacles ++ targets) ∷
     -- each at most once
     plain 1 (targets ++ targets) ∷
@@ -159,8 +143,8 @@ bad-files =
     plain 8 times ∷
     plain 1 (targets ++ obstacles) ∷
     plain 8 (targets ++ times ++ values) ∷
-    plain 1 (targets ++ f 0x08 []) ∷
-    (f 0x00 [] ++ plain 1 targets) ∷
+    plain 1 (targets ++ field-bytes 0x08 []) ∷
+    (field-bytes 0x00 [] ++ plain 1 targets) ∷
     -- a search or flag outside its range
     with-flags 0 0 0 ∷
     with-flags 9 0 0 ∷
@@ -185,28 +169,30 @@ bad-files =
     -- a length whose bytes are the other way round
     plain 1 (0x04 ∷ 0x00 ∷ 0x02 ∷ 0x01 ∷ 0x00 ∷ []) ∷
     -- a float field that is no multiple of 4
-    plain 3 (targets ++ f 0x06 (zeros 6)) ∷
-    plain 4 (targets ++ f 0x07 (zeros 1)) ∷
+    plain 3 (targets ++ field-bytes 0x06 (zeros 6)) ∷
+    plain 4 (targets ++ field-bytes 0x07 (zeros 1)) ∷
     -- a grid field over 4,096 bytes
-    plain 1 (f 0x04 (zeros 4097)) ∷
-    plain 3 (targets ++ f 0x06 (zeros 4100)) ∷
+    plain 1 (field-bytes 0x04 (zeros 4097)) ∷
+    plain 3 (targets ++ field-bytes 0x06 (zeros 4100)) ∷
     -- n above 1,024
     with-size 1025 1 ∷
     with-size 1 32768 ∷
     with-size 65535 65535 ∷
     -- anything after the last field
     plain 1 (targets ++ (0x00 ∷ [])) ∷
-    (whole-case ++ (0x00 ∷ [])) ∷ []
+    (case-file ++ (0x00 ∷ [])) ∷ []
 
-pub refuse : all-asked bad-files ≡ all-refused bad-files
+pub bad-files-refused : map asked bad-files ≡ map (λ (file : Bytes). refuses (number 8)) bad-files
 unfolding file-computing
-refuse = refl
+bad-files-refused = refl
 
 -- ---- answers
 
 -- Document 01's whole case: 2 takes, and 0, infinity, infinity, 14.142136 in the grid.
-pub whole-answer : answer-file (accepted 2 (float 0 ∷ inf false ∷ inf false ∷ float 0x4162_4630 ∷ []))
-    ≡ 0x10 ∷ 0x01 ∷ 0x00 ∷ 0x00 ∷ 0x12 ∷ 0x08 ∷ 0x00 ∷ 0x02 ∷ 0x00 ∷ 0x00 ∷ 0x00 ∷ 0x00 ∷ 0x00 ∷ 0x00 ∷ 0x00 ∷ 0x13 ∷ 0x10 ∷ 0x00 ∷ 0x00 ∷ 0x00 ∷ 0x00 ∷ 0x00 ∷ 0x00 ∷ 0x00 ∷ 0x80 ∷ 0x7f ∷ 0x00 ∷ 0x00 ∷ 0x80 ∷ 0x7f ∷ 0x30 ∷ 0x46 ∷ 0x62 ∷ 0x41 ∷ []
+abbrev pub case-answer : Bytes
+case-answer = 0x10 ∷ 0x01 ∷ 0x00 ∷ 0x00 ∷ 0x12 ∷ 0x08 ∷ 0x00 ∷ 0x02 ∷ 0x00 ∷ 0x00 ∷ 0x00 ∷ 0x00 ∷ 0x00 ∷ 0x00 ∷ 0x00 ∷ 0x13 ∷ 0x10 ∷ 0x00 ∷ 0x00 ∷ 0x00 ∷ 0x00 ∷ 0x00 ∷ 0x00 ∷ 0x00 ∷ 0x80 ∷ 0x7f ∷ 0x00 ∷ 0x00 ∷ 0x80 ∷ 0x7f ∷ 0x30 ∷ 0x46 ∷ 0x62 ∷ 0x41 ∷ []
+
+pub whole-answer : answer-file (accepted 2 (float 0 ∷ inf false ∷ inf false ∷ float 0x4162_4630 ∷ [])) ≡ case-answer
 unfolding file-computing
 whole-answer = refl
 
@@ -220,14 +206,6 @@ answers =
       0x10 ∷ 0x01 ∷ 0x00 ∷ 0x00 ∷ 0x12 ∷ 0x08 ∷ 0x00 ∷ 0xff ∷ 0xff ∷ 0xff ∷ 0xff ∷ 0xff ∷ 0xff ∷ 0xff ∷ 0xff ∷ 0x13 ∷ 0x04 ∷ 0x00 ∷ 0x00 ∷ 0x00 ∷ 0xc0 ∷ 0x7f ∷ [],
     ) ∷ []
 
-abbrev made : List (Outcome × Bytes) → List Bytes
-made [] = []
-made ((outcome, bytes) ∷ rest) = answer-file outcome ∷ made rest
-
-abbrev expected : List (Outcome × Bytes) → List Bytes
-expected [] = []
-expected ((outcome, bytes) ∷ rest) = bytes ∷ expected rest
-
-pub answered : made answers ≡ expected answers
+pub answers-made : map (λ (e : Outcome × Bytes). answer-file (e .0)) answers ≡ map (λ (e : Outcome × Bytes). e .1) answers
 unfolding file-computing
-answered = refl
+answers-made = refl

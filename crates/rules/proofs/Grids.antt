@@ -35,12 +35,10 @@ abbrev pub Entry : Type 0
 Entry = Outcome × Said
 
 abbrev pub all-heard : List Entry → List Said
-all-heard [] = []
-all-heard ((outcome, said) ∷ rest) = heard said outcome ∷ all-heard rest
+all-heard entries = map (λ (e : Entry). heard (e .1) (e .0)) entries
 
 abbrev pub all-said : List Entry → List Said
-all-said [] = []
-all-said ((outcome, said) ∷ rest) = said ∷ all-said rest
+all-said entries = map (λ (e : Entry). e .1) entries
 
 abbrev pub rows-by-cols : ℤ → ℤ → Size
 rows-by-cols rows cols = record { rows = rows; cols = cols }
