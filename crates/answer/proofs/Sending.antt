@@ -18,7 +18,7 @@ use Rattle.calls.proofs.Promises.{takes-one, refusal-no-takes}
 use Rattle.gridfile.specs.declared.request.Request.{Request}
 use Rattle.gridfile.specs.declared.request.Parsed.{Parsed}
 use Rattle.gridfile.specs.declared.request.Parsed.the-variants.{Good}
-use Rattle.gridfile.specs.Request.{parsed}
+use Rattle.gridfile.specs.Request.{most-file-cells, parsed}
 use Rattle.gridfile.specs.Contents.{bytes-in, floats-in, written-out, asked}
 use Rattle.gridfile.specs.Answers.{Written, number-field, grid-field, answer-file}
 use Rattle.gridfile.proofs.Stores.{number-field-long, grid-field-long}
@@ -57,7 +57,7 @@ module _ {before after : List ℕ} {count : ℕ} where
         omega arith;
   }
 
-  pub short-accepted : (t : ℕ) (grid : List Float) → length grid ≤ 1024 → Written (answer-file (accepted t grid)) before after count → Told (accepted t grid) before after count
+  pub short-accepted : (t : ℕ) (grid : List Float) → length grid ≤ most-file-cells → Written (answer-file (accepted t grid)) before after count → Told (accepted t grid) before after count
   short-accepted t grid few w = record {
     written = w;
     short =

@@ -12,6 +12,7 @@ use Rattle.calls.specs.declared.answer.Answer.{Answer}
 use Rattle.calls.specs.declared.answer.Answer.the-variants.{Accepted, Refused}
 use Rattle.calls.specs.Answer.{refusal-number}
 use Rattle.gridfile.specs.declared.request.Request.{Request}
+use Rattle.gridfile.specs.Request.{most-file-cells}
 use Rattle.gridfile.specs.Answers.{answer-file}
 use Rattle.answer.specs.Answering.{searched, Sent}
 
@@ -19,7 +20,7 @@ use Rattle.answer.specs.Answering.{searched, Sent}
 pub record Small (size : Size) : Type 0 where
   pub rows-natural : size .rows ≡ pos (mag (size .rows))
   pub cols-natural : size .cols ≡ pos (mag (size .cols))
-  pub few : count size ≤ 1024
+  pub few : count size ≤ most-file-cells
 
 -- What a search is lent, at the lengths that the size asks for. Each search takes those of the work buffers that it has.
 pub record Lends (size : Size) (cells distances : List Float) (marks listed adjacent added queue : List ℕ) : Type 0 where

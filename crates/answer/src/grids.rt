@@ -1,5 +1,6 @@
 // The grids of a request, out of the file.
 use crate::search::search;
+use gridfile::FIELD_MAX;
 use gridfile::Request;
 use gridfile::copy_bytes;
 use gridfile::read_floats;
@@ -13,10 +14,10 @@ ghost use Rattle.answer.specs.Answering.{longest, outcome-of};
 ghost use Rattle.answer.specs.Lending.{Told};
 
 // The most bytes of a grid field. A byte grid of another length than n is for the search to refuse.
-const BYTES: usize = 4096;
+const BYTES: usize = FIELD_MAX;
 
 // The most floats of one.
-const FLOATS: usize = 1024;
+const FLOATS: usize = FIELD_MAX / 4;
 
 // Answers the request of a file.
 pub fn answer_request(request: Request, input: &[u8], output: &mut [u8]) -> usize

@@ -5,6 +5,7 @@ use calls::Answer;
 use distances::distance_with_obstacles;
 use distances::distances_up_to;
 use distances::travel_distances_up_to;
+use gridfile::FILE_CELLS_MAX;
 use gridfile::Request;
 use sums::sum_targets_within_travel_distance;
 use sums::sum_within_travel_distance;
@@ -17,11 +18,11 @@ ghost use lib.ListN.{length};
 ghost use Rattle.answer.specs.Answering.{longest};
 ghost use Rattle.answer.specs.Lending.{Small, Lends, stated, Told, found};
 
-// The program holds grids of at most 1,024 cells.
-const CELLS: usize = 1024;
+// The program holds every grid that a file may ask for: 1,024 cells at most.
+const CELLS: usize = FILE_CELLS_MAX;
 
 // One slot more than cells.
-const SLOTS: usize = 1025;
+const SLOTS: usize = CELLS + 1;
 
 // Runs the search that the request asks for, which is 1 to 8.
 fn run(

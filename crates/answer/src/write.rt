@@ -8,6 +8,7 @@ ghost use Prim.Native.Nat.{_≤_};
 ghost use lib.ListN.{length};
 ghost use Rattle.rules.specs.Sizes.{refused};
 ghost use Rattle.calls.specs.Answer.{refusal-number};
+ghost use Rattle.gridfile.specs.Request.{most-file-cells};
 ghost use Rattle.answer.specs.Answering.{longest};
 ghost use Rattle.answer.specs.Lending.{stated, Told};
 
@@ -29,7 +30,7 @@ fn write_refusal(refusal: Refusal, output: &mut [u8]) -> usize
 
 // Writes the answer of a search, with its answer grid where it was accepted.
 pub fn write_answer(answer: Answer, cells: &[f32], output: &mut [u8]) -> usize
-    requires { ⌜ length (now cells) ≤ 1024 ⌝ }
+    requires { ⌜ length (now cells) ≤ most-file-cells ⌝ }
     requires { ⌜ longest ≤ length (now output) ⌝ }
     ensures { λ r. ⌜ Told (stated answer (now (cells .entry))) (now (output .entry)) (now (output .exit)) r ⌝ }
 {

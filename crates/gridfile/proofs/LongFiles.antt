@@ -8,7 +8,7 @@ use borrow.Author.Tests.{eq-eqb}
 use lib.Dec.{eqb}
 use lib.ListN.{length, drop, length-drop}
 use Rattle.gridfile.specs.Fields.{Part, part, Field, field, Fields, cut, whole, and-then, fields-after, fields-from, content-of, tags}
-use Rattle.gridfile.specs.Request.{Grids, Request, Parsed, Good, Bad, grids-of, by-tag, grids-fit, parsed}
+use Rattle.gridfile.specs.Request.{Grids, Request, Parsed, Good, Bad, grids-of, by-tag, longest-field, grids-fit, parsed}
 use Rattle.gridfile.specs.Lookups.{Exactly, grids-in}
 use Rattle.rules.proofs.Tests.{never}
 use Rattle.gridfile.proofs.Choices.{same-is, for-grids}
@@ -51,7 +51,7 @@ spanned (suc left) at (b ∷ bytes) = one-more left (length bytes) (fields-after
 
 abbrev All-small : List Field → List ℕ → Type 0
 All-small fields [] = Unit {0}
-All-small fields (a ∷ more) = (content-of a fields .len ≤ 4096) × All-small fields more
+All-small fields (a ∷ more) = (content-of a fields .len ≤ longest-field) × All-small fields more
 
 abbrev Apart : ℕ → List ℕ → Type 0
 Apart a [] = Unit {0}
@@ -72,7 +72,7 @@ module _ (f : Field) (fields : List Field) (a : ℕ) (is : f .tag ≡ a) where
 
   rest-small : (more : List ℕ) → Apart a more → All-small (f ∷ fields) more → All-small fields more
   rest-small [] apart small = tt
-  rest-small (b ∷ more) apart small = (subst (λ (p : Part). p .len ≤ 4096) (later-content b (apart .0)) (small .0), rest-small more (apart .1) (small .1))
+  rest-small (b ∷ more) apart small = (subst (λ (p : Part). p .len ≤ longest-field) (later-content b (apart .0)) (small .0), rest-small more (apart .1) (small .1))
 
 -- Fields with distinct tags have at most 3 + 4,096 bytes each. Proof: by the fields; what the tag of the first finds is the first's content,
 -- and what another tag finds is among the others.
@@ -83,14 +83,14 @@ few-bytes (f ∷ fields) [] e apart small = never cc
 few-bytes (f ∷ fields) (a ∷ more) e apart small =
     let is : f .tag ≡ a = cc in
     let are : tags fields ≡ more = cc in
-    let first = subst (λ (p : Part). p .len ≤ 4096) (first-content f fields a is) (small .0) in
+    let first = subst (λ (p : Part). p .len ≤ longest-field) (first-content f fields a is) (small .0) in
     let rest = few-bytes fields more are (apart .1) (rest-small f fields a is more (apart .0) (small .1)) in
     omega arith
 
 -- The grids of a search are at most three.
 grids-short :
     (fields : List Field) (search : ℕ) → tags fields ≡ grids-of search
-    → content-of 0x04 fields .len ≤ 4096 → content-of 0x05 fields .len ≤ 4096 → content-of 0x06 fields .len ≤ 4096 → content-of 0x07 fields .len ≤ 4096
+    → content-of 0x04 fields .len ≤ longest-field → content-of 0x05 fields .len ≤ longest-field → content-of 0x06 fields .len ≤ longest-field → content-of 0x07 fields .len ≤ longest-field
     → bytes-of fields ≤ 12297
 grids-short fields search are t o ti v =
     for-grids (λ ts. tags fields ≡ ts → bytes-of fields ≤ 12297)

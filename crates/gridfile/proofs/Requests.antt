@@ -11,7 +11,7 @@ use lib.Signed.{mag}
 use lib.ListN.{length, drop, length-drop}
 use Rattle.rules.specs.Sizes.{count}
 use Rattle.gridfile.specs.Fields.{Part, part, Field, field, Fields, cut, whole, and-then, fields-after, fields-from, content-of, tags}
-use Rattle.gridfile.specs.Request.{Head, Grids, Request, Good, grids-of, same, by-tag, head-of, flags-fit, numbers-fit, few-cells, head-fits, small-bytes, small-floats, grids-fit, as-request, parsed}
+use Rattle.gridfile.specs.Request.{Head, Grids, Request, Good, grids-of, same, by-tag, head-of, flags-fit, numbers-fit, most-file-cells, few-cells, head-fits, longest-field, small-bytes, small-floats, grids-fit, as-request, parsed}
 use Rattle.gridfile.specs.Lookups.{has-head, Found, Exactly, Breach, grids-in}
 use Rattle.rules.proofs.Tests.{and-both, never}
 use Rattle.gridfile.proofs.Choices.{by-test, chosen, either, all-four}
@@ -25,12 +25,12 @@ Inside file p = p .start + p .len ≤ length file
 -- A grid's part: inside the file, and of at most 4,096 bytes.
 pub record Bytes-part (file : List ℕ) (p : Part) : Type 0 where
   pub inside : Inside file p
-  pub small : p .len ≤ 4096
+  pub small : p .len ≤ longest-field
 
 -- A float grid's: also a multiple of 4.
 pub record Floats-part (file : List ℕ) (p : Part) : Type 0 where
   pub inside : Inside file p
-  pub small : p .len ≤ 4096
+  pub small : p .len ≤ longest-field
   pub fours : p .len % 4 ≡ 0
 
 pub record Usable (file : List ℕ) (r : Request) : Type 0 where
@@ -38,7 +38,7 @@ pub record Usable (file : List ℕ) (r : Request) : Type 0 where
   pub search-to : r .search ≤ 8
   pub rows-natural : r .size .rows ≡ pos (mag (r .size .rows))
   pub cols-natural : r .size .cols ≡ pos (mag (r .size .cols))
-  pub few : count (r .size) ≤ 1024
+  pub few : count (r .size) ≤ most-file-cells
   pub targets : Bytes-part file (r .grids .targets)
   pub obstacles : Bytes-part file (r .grids .obstacles)
   pub times : Floats-part file (r .grids .times)
@@ -116,10 +116,10 @@ found-inside file search w g ends e =
 
 -- The lengths that the grids of a file may have.
 pub record AllSmall (g : Grids) : Type 0 where
-  pub targets : g .targets .len ≤ 4096
-  pub obstacles : g .obstacles .len ≤ 4096
-  pub times : g .times .len ≤ 4096
-  pub values : g .values .len ≤ 4096
+  pub targets : g .targets .len ≤ longest-field
+  pub obstacles : g .obstacles .len ≤ longest-field
+  pub times : g .times .len ≤ longest-field
+  pub values : g .values .len ≤ longest-field
   pub times-fours : g .times .len % 4 ≡ 0
   pub values-fours : g .values .len % 4 ≡ 0
 
@@ -168,7 +168,7 @@ module _ (file : List ℕ) where
       came-from r (grids-in (head .search) (fields-from file 24)) (passed .0) refl (passed .1)
 
   -- The tests that the head passed.
-  head-passed : head-fits head ≡ true → (1 ≤ head .search) × (head .search ≤ 8) × (head .rows * head .cols ≤ 1024)
+  head-passed : head-fits head ≡ true → (1 ≤ head .search) × (head .search ≤ 8) × (head .rows * head .cols ≤ most-file-cells)
   unfolding head-fits
   head-passed e =
       let h = head in
@@ -176,7 +176,7 @@ module _ (file : List ℕ) where
       let numbers = numbers-fit (h .search) (h .«cell_size») (h .limit) in
       let parts = and-both (flags && numbers) (few-cells (h .rows) (h .cols)) e in
       let range = in-range (leb 1 (h .search)) (leb (h .search) 8) (leb (h .diagonals) 1) (leb (h .adjacent) 1) _ _ (and-both flags numbers (parts .0) .0) in
-      (leb-true 1 (h .search) (range .0), leb-true (h .search) 8 (range .1), leb-true (h .rows * h .cols) 1024 (parts .1))
+      (leb-true 1 (h .search) (range .0), leb-true (h .search) 8 (range .1), leb-true (h .rows * h .cols) most-file-cells (parts .1))
 
   -- What a program may rely on.
   pub usable : (r : Request) → parsed file ≡ Good r → Usable file r
@@ -192,7 +192,7 @@ module _ (file : List ℕ) where
         search-to = subst (λ (q : Request). q .search ≤ 8) (sym (c .is)) (numbers .1);
         rows-natural = subst (λ (q : Request). q .size .rows ≡ pos (mag (q .size .rows))) (sym (c .is)) refl;
         cols-natural = subst (λ (q : Request). q .size .cols ≡ pos (mag (q .size .cols))) (sym (c .is)) refl;
-        few = subst (λ (q : Request). count (q .size) ≤ 1024) (sym (c .is)) (numbers .2);
+        few = subst (λ (q : Request). count (q .size) ≤ most-file-cells) (sym (c .is)) (numbers .2);
         targets = record { inside = inside .targets; small = small .targets };
         obstacles = record { inside = inside .obstacles; small = small .obstacles };
         times = record { inside = inside .times; small = small .times; fours = small .times-fours };

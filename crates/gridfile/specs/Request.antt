@@ -73,8 +73,11 @@ abbrev pub numbers-fit : ℕ → ℕ → ℕ → Bool
 numbers-fit search cell-size limit = zero-unless (uses-cell-size search) cell-size && zero-unless (uses-limit search) limit
 
 -- n is at most 1,024.
+abbrev pub most-file-cells : ℕ
+most-file-cells = 1024
+
 abbrev pub few-cells : ℕ → ℕ → Bool
-few-cells rows cols = leb (rows * cols) 1024
+few-cells rows cols = leb (rows * cols) most-file-cells
 
 -- Nothing in 01, 02 or 03 is outside its range.
 unfoldable pub head-fits : Head → Bool
@@ -92,8 +95,11 @@ by-tag fields = record {
 }
 
 -- A grid field has at most 4,096 bytes, and a float field a multiple of 4. That the length is n is not asked here.
+abbrev pub longest-field : ℕ
+longest-field = 4096
+
 abbrev pub small-bytes : Part → Bool
-small-bytes p = leb (p .len) 4096
+small-bytes p = leb (p .len) longest-field
 
 abbrev pub small-floats : Part → Bool
 small-floats p = small-bytes p && eqb (p .len % 4) 0

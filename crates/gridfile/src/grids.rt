@@ -32,7 +32,7 @@ pub enum Next {
 }
 
 // The most bytes of a grid field.
-const FIELD_MAX: usize = 4096;
+pub const FIELD_MAX: usize = 4096;
 
 // The grid of this tag where the search has it, which is then the field at this place.
 fn next_grid(file: &[u8], at: usize, tag: u8, has: bool) -> Next

@@ -27,8 +27,8 @@ pub struct Head {
 // The place after them.
 pub const HEAD_END: usize = 24;
 
-// The program holds grids of at most 1,024 cells.
-const CELLS_MAX: u32 = 1024;
+// The most cells of a grid that a file may ask for.
+pub const FILE_CELLS_MAX: usize = 1024;
 
 // Whether the file begins with 01, 02 and 03, each of its length.
 pub fn has_head(file: &[u8]) -> bool
@@ -101,11 +101,11 @@ fn numbers_fit(search: u8, cell_size: u32, limit: u32) -> bool
     zero_unless(uses_limit(search), limit)
 }
 
-// Whether a grid of this size is one that the program holds. 65,535 squared fits 32 bits.
+// Whether a grid of this size is one that a file may ask for.
 fn few_cells(rows: u16, cols: u16) -> bool
     ensures { λ r. ⌜ r ≡ few-cells rows cols ⌝ }
 {
-    rows as u32 * cols as u32 <= CELLS_MAX
+    rows as usize * cols as usize <= FILE_CELLS_MAX
 }
 
 // Whether what the three fields hold keeps the rules.

@@ -1,4 +1,4 @@
--- `head::few_cells` meets its contract: two numbers of 16 bits have a product of 32. Assumes nothing.
+-- `head::few_cells` meets its contract: two numbers of 16 bits have a product of at most 32. Assumes nothing.
 use native.Mathlib.Nat.{mul-le-mul}
 use Prim.Native.Nat.{_*_, _≤_}
 use borrow.Author.Needs.{needs}
