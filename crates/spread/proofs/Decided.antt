@@ -19,7 +19,7 @@ use Rattle.rules.specs.Sizes.{count}
 use Rattle.rules.specs.Values.{Carried}
 use Rattle.rules.proofs.Decided.{equation-decides}
 use Rattle.spread.specs.declared.search.Search.{Search}
-use Rattle.spread.specs.declared.take.Took.{Took}
+use Rattle.spread.specs.declared.take.TakenCell.{TakenCell}
 use Rattle.spread.specs.Nets.{Grids, carries, labels-of}
 use Rattle.spread.specs.Steps.{Terrain}
 use Rattle.spread.specs.Waiting.{border}
@@ -113,7 +113,7 @@ began-decides p q =
 -- ---- `take_cell`
 
 -- Two takes take the same cell at the same distance, and leave buffers that hold the same.
-pub record SameTake (search : Search) (after₁ after₂ : Buffers) (a b : Took) : Type 0 where
+pub record SameTake (search : Search) (after₁ after₂ : Buffers) (a b : TakenCell) : Type 0 where
   pub cell : a .cell ≡ b .cell
   pub distance : a .distance ≡ b .distance
   pub state : SameState search after₁ after₂
@@ -121,7 +121,7 @@ pub record SameTake (search : Search) (after₁ after₂ : Buffers) (a b : Took)
 -- Proof: the buffers before hold a state, and the rule's own net follows its steps. In that state something waits, and both takes lead to
 -- where the net's take of its head leads.
 pub took-cell-decides :
-    {search : Search} {ground : Terrain} {before after₁ after₂ : Buffers} {a b : Took} → Taking search ground before
+    {search : Search} {ground : Terrain} {before after₁ after₂ : Buffers} {a b : TakenCell} → Taking search ground before
     → TookCell search ground before after₁ a → TookCell search ground before after₂ b → SameTake search after₁ after₂ a b
 took-cell-decides {search} {ground} {before} taking p q =
     let (u, ws, first) = some-first (contents (before .queue) (before .ring)) (taking .some) in

@@ -22,8 +22,8 @@ use Rattle.rules.specs.declared.Size.{Size}
 use Rattle.rules.specs.Sizes.{in-bounds, count}
 use Rattle.rules.specs.Values.{Carried}
 use Rattle.spread.specs.declared.search.Search.{Search}
-use Rattle.spread.specs.declared.take.Took.{Took}
-use Rattle.spread.specs.declared.take.TookSome.{TookSome}
+use Rattle.spread.specs.declared.take.TakenCell.{TakenCell}
+use Rattle.spread.specs.declared.take.TakenSome.{TakenSome}
 use Rattle.spread.specs.Nets.{carries}
 use Rattle.spread.specs.Buffers.{Buffers, Good, Holds}
 use Rattle.spread.specs.Steps.{Terrain, terrain}
@@ -94,7 +94,7 @@ module _ {search : Search} {ground : Terrain} {before : Buffers} where
 
       -- The take is the machine's next one. Proof: the buffers hold the state after r takes, in which the same cells wait, so that the code's
       -- take leads to the state that the machine's take leads to, and that is the state after r + 1 takes.
-      pub next-turn : {after : Buffers} {taken : Took} → TookCell search ground b after taken → Turn search ground before after (r + 1)
+      pub next-turn : {after : Buffers} {taken : TakenCell} → TookCell search ground b after taken → Turn search ground before after (r + 1)
       next-turn {after} took = record {
         good = took .good;
         taken = λ net ready.
@@ -114,21 +114,21 @@ module _ {search : Search} {ground : Terrain} {before : Buffers} where
 -- ---- some takes, one or all
 
 -- What holds before each turn of the loop.
-pub record Passed (search : Search) (ground : Terrain) (most : ℕ) (before b : Buffers) (took : Took) (r : ℕ) : Type 0 where
+pub record Passed (search : Search) (ground : Terrain) (most : ℕ) (before b : Buffers) (took : TakenCell) (r : ℕ) : Type 0 where
   pub few : r ≤ most
   pub turn : Turn search ground before b r
   pub untouched : r ≡ 0 → b ≡ before
   pub one : r ≡ 1 → TookCell search ground before b took
 
 module _ {search : Search} {ground : Terrain} {most : ℕ} {before : Buffers} where
-  pub none-passed : {took : Took} → Good search before → Passed search ground most before before took 0
+  pub none-passed : {took : TakenCell} → Good search before → Passed search ground most before before took 0
   none-passed good = record { few = omega arith; turn = no-turn good; untouched = λ none-yet. refl; one = λ one-yet. absurd (lt-irrefl 0 (omega arith)) }
 
-  module _ {b : Buffers} {took : Took} {r : ℕ} (passed : Passed search ground most before b took r) {answer : Bool} (empty : SaysEmpty (b .ring) answer) where
+  module _ {b : Buffers} {took : TakenCell} {r : ℕ} (passed : Passed search ground most before b took r) {answer : Bool} (empty : SaysEmpty (b .ring) answer) where
     pub some-passed : Setting search ground → answer ≡ false → Taking search ground b
     some-passed setting something = turn-takes (passed .turn) empty (ap not something) setting
 
-    pub more-passed : {after : Buffers} {took′ : Took} → r < most → answer ≡ false → TookCell search ground b after took′ → Passed search ground most before after took′ (r + 1)
+    pub more-passed : {after : Buffers} {took′ : TakenCell} → r < most → answer ≡ false → TookCell search ground b after took′ → Passed search ground most before after took′ (r + 1)
     more-passed {after} {took′} below something taken = record {
       few = omega arith;
       turn = next-turn (passed .turn) empty (ap not something) taken;
@@ -145,12 +145,12 @@ module _ {search : Search} {ground : Terrain} {most : ℕ} {before : Buffers} wh
       one = passed .one;
     }
 
-  pub passed-most : {b : Buffers} {took : Took} {r : ℕ} → Passed search ground most before b took r → r ≡ most → TookUpTo search ground most before b (record { took = took; takes = r })
+  pub passed-most : {b : Buffers} {took : TakenCell} {r : ℕ} → Passed search ground most before b took r → r ≡ most → TookUpTo search ground most before b (record { took = took; takes = r })
   passed-most passed all = record { turn = passed .turn; few = passed .few; no-more = inl all; untouched = passed .untouched; one = passed .one }
 
 -- One take of one that is to be made is it. Proof: none was made only if nothing waited.
 pub one-taken :
-    {search : Search} {ground : Terrain} {before after : Buffers} {some : TookSome}
+    {search : Search} {ground : Terrain} {before after : Buffers} {some : TakenSome}
     → Taking search ground before → TookUpTo search ground 1 before after some → TookCell search ground before after (some .took)
 one-taken {before = before} {after} {some} takes took = ⊎-elim (took .one) (λ none-waits. ⊎-elim (λ none-yet. absurd (waited none-waits none-yet)) (λ some-yet. took .one (let few = took .few in omega (arith, some-yet))) (same-or-not (some .takes) 0)) (took .no-more)
   where
@@ -163,7 +163,7 @@ one-taken {before = before} {after} {some} takes took = ⊎-elim (took .one) (λ
 
 -- Where the square were taken, nothing waits: the machine would take one more.
 pub all-taken :
-    {search : Search} {ground : Terrain} {before after : Buffers} {some : TookSome} {most : ℕ} → most ≡ count (search .size) * count (search .size)
+    {search : Search} {ground : Terrain} {before after : Buffers} {some : TakenSome} {most : ℕ} → most ≡ count (search .size) * count (search .size)
     → (net : Net Carried) × Ready search ground net before → TookUpTo search ground most before after some
     → Ran search ground before (after .distances) (after .carried) (after .marks) (after .queue) (some .takes)
 all-taken {search} {ground} {before} {after} {some} {most} square (net, ready) took = ended-turn (took .turn) (⊎-elim (λ all. go all (contents (after .queue) (after .ring)) refl) (λ none-waits. none-waits) (took .no-more))

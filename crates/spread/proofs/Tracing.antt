@@ -12,7 +12,7 @@ use Rattle.fifo.proofs.Runs.{trace-last}
 use Rattle.rules.specs.Sizes.{count}
 use Rattle.rules.specs.Values.{Carried}
 use Rattle.spread.specs.declared.search.Search.{Search}
-use Rattle.spread.specs.declared.take.Took.{Took}
+use Rattle.spread.specs.declared.take.TakenCell.{TakenCell}
 use Rattle.spread.specs.Steps.{Terrain}
 use Rattle.spread.specs.Buffers.{Buffers}
 use Rattle.spread.specs.Loop.{taken-at, TookCell, Ready}
@@ -26,7 +26,7 @@ none-taken net = ap (map (λ taken. (taken .0, taken .1 .0))) (trace-zero net (i
 -- the one that the buffers had.
 pub next-taken :
     {search : Search} {ground : Terrain} {before b : Buffers} {r : ℕ} (turn : Turn search ground before b r) {answer : Bool}
-    (empty : SaysEmpty (b .ring) answer) (something : not answer ≡ true) {after : Buffers} {took : Took} → TookCell search ground b after took
+    (empty : SaysEmpty (b .ring) answer) (something : not answer ≡ true) {after : Buffers} {took : TakenCell} → TookCell search ground b after took
     → (net : Net Carried) → Ready search ground net before → taken-at net (r + 1) ≡ taken-at net r ++ (took .cell, took .distance) ∷ []
 next-taken {search} {b = b} {r} turn empty something {took = took} takes net ready =
     let (u, ws, is-head) = first turn empty something in

@@ -15,8 +15,8 @@ use Rattle.rules.specs.Values.{Carried}
 use Rattle.spread.specs.declared.search.Rule.{Rule}
 use Rattle.spread.specs.declared.search.Search.{Search}
 use Rattle.spread.specs.declared.relax.Left.{Left}
-use Rattle.spread.specs.declared.take.Took.{Took}
-use Rattle.spread.specs.declared.take.TookSome.{TookSome}
+use Rattle.spread.specs.declared.take.TakenCell.{TakenCell}
+use Rattle.spread.specs.declared.take.TakenSome.{TakenSome}
 use Rattle.spread.specs.Nets.{carries, reads-times, labels-of}
 use Rattle.spread.specs.Steps.{Terrain, labelled, avoids, Numbers, numbers-of, straight-steps, diagonal-steps, Follows}
 use Rattle.spread.specs.Waiting.{Joining, Joined}
@@ -90,7 +90,7 @@ pub record Taking (search : Search) (ground : Terrain) (b : Buffers) : Type 0 wh
   pub some : 0 < length (contents (b .queue) (b .ring))
 
 -- The head was taken, with the distance that it had, in whatever net has the rule's steps.
-pub record TookCell (search : Search) (ground : Terrain) (before after : Buffers) (took : Took) : Type 0 where
+pub record TookCell (search : Search) (ground : Terrain) (before after : Buffers) (took : TakenCell) : Type 0 where
   pub good : Good search after
   pub head : (u : ℕ) (ws : List ℕ) → contents (before .queue) (before .ring) ≡ u ∷ ws → took .cell ≡ u
   pub inside : took .cell < count (search .size)
@@ -111,14 +111,14 @@ pub record Ready (search : Search) (ground : Terrain) (net : Net Carried) (b : B
   pub within : (k : ℕ) → takes net k (initial net) ≤ count (search .size) * count (search .size)
 
 -- After r takes, each of them made, the buffers hold what the machine does.
-pub record Taken (search : Search) (net : Net Carried) (b : Buffers) (r : ℕ) : Type 0 where
+pub record AfterTakes (search : Search) (net : Net Carried) (b : Buffers) (r : ℕ) : Type 0 where
   pub holds : Holds search (run net r (initial net)) b
   pub all : takes net r (initial net) ≡ r
 
 -- So it is for every net that the buffers were ready for before.
 pub record Turn (search : Search) (ground : Terrain) (before b : Buffers) (r : ℕ) : Type 0 where
   pub good : Good search b
-  pub taken : (net : Net Carried) → Ready search ground net before → Taken search net b r
+  pub taken : (net : Net Carried) → Ready search ground net before → AfterTakes search net b r
   pub kept : carries (search .rule) ≡ false → b .carried ≡ before .carried
 
 -- Cells are to be taken, if any wait.
@@ -127,7 +127,7 @@ pub record TakingSome (search : Search) (ground : Terrain) (b : Buffers) : Type 
   pub setting : Setting search ground
 
 -- So many were taken, `most` or until nothing waited; where one was, that is its take.
-pub record TookUpTo (search : Search) (ground : Terrain) (most : ℕ) (before after : Buffers) (some : TookSome) : Type 0 where
+pub record TookUpTo (search : Search) (ground : Terrain) (most : ℕ) (before after : Buffers) (some : TakenSome) : Type 0 where
   pub turn : Turn search ground before after (some .takes)
   pub few : some .takes ≤ most
   pub no-more : (some .takes ≡ most) ⊎ (contents (after .queue) (after .ring) ≡ [])

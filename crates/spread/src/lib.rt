@@ -24,5 +24,5 @@ pub use first::is_target;
 pub use run::spread;
 pub use search::Rule;
 pub use search::Search;
-pub use take::Took;
+pub use take::TakenCell;
 pub use take::take_cell;

@@ -13,7 +13,7 @@ ghost use Rattle.spread.specs.Buffers.{buffers};
 ghost use Rattle.spread.specs.Loop.{CanLeave, LeftCell, Taking, TookCell, TakingSome, TookUpTo};
 
 // A taken cell, the distance that it had when it was taken, and the ring afterwards.
-pub struct Took {
+pub struct TakenCell {
     pub cell: u32,
     pub distance: f32,
     pub ring: Ring,
@@ -50,7 +50,7 @@ fn take_one(
     marks: &mut [u8],
     queue: &mut [u32],
     ring: Ring,
-) -> Took
+) -> TakenCell
     requires { ⌜ Taking search (terrain (now obstacles) (now times)) (buffers (now distances) (now carried) (now marks) (now queue) ring) ⌝ }
     ensures { λ r. ⌜ TookCell search (terrain (now (obstacles .entry)) (now (times .entry)))
         (buffers (now (distances .entry)) (now (carried .entry)) (now (marks .entry)) (now (queue .entry)) ring)
@@ -76,7 +76,7 @@ fn take_one(
         queue,
         rest,
     );
-    Took {
+    TakenCell {
         cell,
         distance: left.distance,
         ring: waiting,
@@ -84,8 +84,8 @@ fn take_one(
 }
 
 // The last cell that was taken, and how many were.
-pub struct TookSome {
-    pub took: Took,
+pub struct TakenSome {
+    pub took: TakenCell,
     pub takes: u64,
 }
 
@@ -101,13 +101,13 @@ pub fn take_some(
     queue: &mut [u32],
     ring: Ring,
     most: u64,
-) -> TookSome
+) -> TakenSome
     requires { ⌜ TakingSome search (terrain (now obstacles) (now times)) (buffers (now distances) (now carried) (now marks) (now queue) ring) ⌝ }
     ensures { λ r. ⌜ TookUpTo search (terrain (now (obstacles .entry)) (now (times .entry))) most
         (buffers (now (distances .entry)) (now (carried .entry)) (now (marks .entry)) (now (queue .entry)) ring)
         (buffers (now (distances .exit)) (now (carried .exit)) (now (marks .exit)) (now (queue .exit)) (r .took .ring)) r ⌝ }
 {
-    let mut took = Took {
+    let mut took = TakenCell {
         cell: 0,
         distance: 0.0,
         ring,
@@ -116,7 +116,7 @@ pub fn take_some(
     while takes < most {
         let waiting = took.ring;
         if is_empty(waiting) {
-            return TookSome { took, takes };
+            return TakenSome { took, takes };
         }
         took = take_one(
             search,
@@ -130,7 +130,7 @@ pub fn take_some(
         );
         takes += 1;
     }
-    TookSome { took, takes }
+    TakenSome { took, takes }
 }
 
 // Takes the cell that waited longest, and tries its neighbours.
@@ -143,7 +143,7 @@ pub fn take_cell(
     marks: &mut [u8],
     queue: &mut [u32],
     ring: Ring,
-) -> Took
+) -> TakenCell
     requires { ⌜ Taking search (terrain (now obstacles) (now times)) (buffers (now distances) (now carried) (now marks) (now queue) ring) ⌝ }
     ensures { λ r. ⌜ TookCell search (terrain (now (obstacles .entry)) (now (times .entry)))
         (buffers (now (distances .entry)) (now (carried .entry)) (now (marks .entry)) (now (queue .entry)) ring)

@@ -18,7 +18,7 @@ use Rattle.rules.specs.Sums.{gaining-one, gaining-of, gain}
 use Rattle.rules.specs.Values.{Carried}
 use Rattle.rules.proofs.Tests.{and-both}
 use Rattle.spread.specs.declared.search.Search.{Search}
-use Rattle.spread.specs.declared.take.Took.{Took}
+use Rattle.spread.specs.declared.take.TakenCell.{TakenCell}
 use Rattle.spread.specs.Steps.{Terrain}
 use Rattle.spread.specs.Buffers.{Buffers}
 use Rattle.spread.specs.Loop.{taken-at, TookCell, Ready}
@@ -106,12 +106,12 @@ module _ {search : Search} {ground : Terrain} {amount : Float} {start : List Flo
       {b : Buffers} {answer : List Float} {added : List ℕ} {r : ℕ} (at : GainTurn search ground amount start before b answer added r)
       {says : Bool} (empty : SaysEmpty (b .ring) says)
     where
-      pub gain-reaches : {after : Buffers} {took : Took} → TookCell search ground b after took → InAnswer (took .cell) answer added
+      pub gain-reaches : {after : Buffers} {took : TakenCell} → TookCell search ground b after took → InAnswer (took .cell) answer added
       gain-reaches takes = record { in-answer = rw (at .answer-length) (takes .inside); in-added = rw (at .added-length) (takes .inside) }
 
       -- The taken cell is the last of those taken so far, and is looked at last.
       pub next-gain :
-          {after : Buffers} {took : Took} {answer′ : List Float} {added′ : List ℕ} → not says ≡ true → TookCell search ground b after took
+          {after : Buffers} {took : TakenCell} {answer′ : List Float} {added′ : List ℕ} → not says ≡ true → TookCell search ground b after took
           → GainedCell (took .cell) (took .distance) (search .limit) amount answer added answer′ added′
           → GainTurn search ground amount start before after answer′ added′ (r + 1)
       next-gain {took = took} {answer′} {added′} something takes gains = record {

@@ -9,7 +9,7 @@ use Rattle.fifo.specs.Machine.{Net, joined}
 use Rattle.rules.specs.Sizes.{count}
 use Rattle.rules.specs.Values.{Carried}
 use Rattle.spread.specs.declared.search.Search.{Search}
-use Rattle.spread.specs.declared.take.Took.{Took}
+use Rattle.spread.specs.declared.take.TakenCell.{TakenCell}
 use Rattle.spread.specs.Steps.{Terrain}
 use Rattle.spread.specs.Buffers.{Buffers}
 use Rattle.spread.specs.Loop.{taken-at, TookCell, Ready}
@@ -40,13 +40,13 @@ module _ {search : Search} {ground : Terrain} {before : Buffers} where
       {says : Bool} (empty : SaysEmpty (b .ring) says)
     where
       pub list-joins :
-          {after : Buffers} {took : Took} → TookCell search ground b after took → (net : Net Carried) × Ready search ground net before
+          {after : Buffers} {took : TakenCell} → TookCell search ground b after took → (net : Net Carried) × Ready search ground net before
           → Joining (took .cell) met listed entries
       list-joins {took = took} takes (net, ready) = joining (at .lists net ready) (took .cell) (takes .inside)
 
       -- The taken cell is the last of those taken so far, and joins the list last.
       pub next-listed :
-          {after : Buffers} {took : Took} {listed′ met′ : List ℕ} {entries′ : ℕ} → not says ≡ true → TookCell search ground b after took
+          {after : Buffers} {took : TakenCell} {listed′ met′ : List ℕ} {entries′ : ℕ} → not says ≡ true → TookCell search ground b after took
           → Joined (took .cell) met listed entries met′ listed′ entries′ → ListTurn search ground before after listed′ met′ entries′ (r + 1)
       next-listed {took = took} {listed′} {met′} {entries′} something takes joins = record {
         turn = next-turn (at .turn) empty something takes;
