@@ -1,12 +1,12 @@
 -- Ordered tests: which refusal is given, and what is known where none is. Assumes nothing.
 use mathlib.Core.Path.{_≡_, refl, sym, ap, _∙_, subst}
-use mathlib.Core.Bool.{Bool, true, false, cond}
+use mathlib.Core.Bool.{Bool, true, false}
 use mathlib.Core.List.{List, [], _∷_, _++_}
 use Prim.Native.Nat.{ℕ}
 use lib.Ieee.{Float}
 use Rattle.rules.specs.declared.Size.{Size}
 use Rattle.rules.specs.Sizes.{Refusal, number, number-at, Judged, passes, stops, Lent, or-else, first-that-holds, any, first-index, shape, below-zero, negative-time}
-use Rattle.rules.proofs.Tests.{never}
+use Rattle.rules.proofs.Refusals.{not-held, or-else-append}
 use Rattle.calls.specs.Answer as code
 use Rattle.calls.specs.Answer.{judged-as, Passes, Stops}
 
@@ -34,22 +34,9 @@ module _ {holds : Bool} {refusal : Refusal} {more : Tests} where
 
   -- Where the tests pass, the first fails and the others pass.
   pub passed : Comes ((holds, refusal) ∷ more) passes → (holds ≡ false) × Comes more passes
-  unfolding first-that-holds
-  passed comes = go holds (comes .is)
-    where
-      go : (b : Bool) → passes ≡ cond b (stops refusal) (first-that-holds more) → (b ≡ false) × Comes more passes
-      go true e = never cc
-      go false e = (refl, record { is = e })
-
-or-else-first : (holds : Bool) (refusal : Refusal) (both first later : Judged) → both ≡ or-else first later → cond holds (stops refusal) both ≡ or-else (cond holds (stops refusal) first) later
-or-else-first true refusal both first later e = refl
-or-else-first false refusal both first later e = e
-
--- Proof: by the first list. A test that holds decides on both sides, and one that fails is passed over on both.
-or-else-append : (tests more : Tests) → first-that-holds (tests ++ more) ≡ or-else (first-that-holds tests) (first-that-holds more)
-unfolding first-that-holds
-or-else-append [] more = refl
-or-else-append ((holds, refusal) ∷ tests) more = or-else-first holds refusal (first-that-holds (tests ++ more)) (first-that-holds tests) (first-that-holds more) (or-else-append tests more)
+  passed comes =
+      let (fails, others) = not-held (holds, refusal) more (sym (comes .is)) in
+      (fails, record { is = sym others })
 
 -- Two lists come to two judgements, and both lists to the first that refuses.
 pub in-order : {tests more : Tests} {first later judged : Judged} → judged ≡ or-else first later → Comes tests first → Comes more later → Comes (tests ++ more) judged

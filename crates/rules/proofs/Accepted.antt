@@ -3,31 +3,17 @@ use mathlib.Core.Bool.{Bool, true, false, not, cond}
 use mathlib.Core.List.{List, _∷_}
 use mathlib.Core.Path.{_≡_, refl, sym, subst}
 use Prim.Native.Nat.{ℕ}
+use borrow.Author.Tests.{not-false}
 use lib.Dec.{T}
 use lib.Ieee.{Float, isNan, le}
 use Rattle.binary32.specs.Numbers.{plus-zero}
+use Rattle.fifo.proofs.Lists.{holds}
 use Rattle.rules.specs.Sizes.{Size, Grid, Spacing, Lent, Refusal, Judged, passes, stops, in-bounds, out-of-bounds, any, first-that-holds, shape, below-zero}
 use Rattle.rules.specs.Distances.{refusals-1, refusals-2, refusals-3}
 use Rattle.rules.specs.Values.{refusals-5, refusals-6}
 use Rattle.rules.specs.Sums.{refusals-7, refusals-8}
 use Rattle.rules.proofs.Tests.{neither}
-
-abbrev Passed : Judged → Type 0
-Passed passes = Unit {0}
-Passed (stops r) = ⊥
-
--- If no test of a list holds, the first does not, and none of the others.
-not-held : (test : Bool × Refusal) (tests : List (Bool × Refusal)) → first-that-holds (test ∷ tests) ≡ passes → (test .0 ≡ false) × (first-that-holds tests ≡ passes)
-unfolding first-that-holds
-not-held (holds, refusal) tests = go holds
-  where
-    go : (b : Bool) → cond b (stops refusal) (first-that-holds tests) ≡ passes → (b ≡ false) × (first-that-holds tests ≡ passes)
-    go true e = absurd (subst Passed (sym e) tt)
-    go false e = (refl, e)
-
-not-false : (b : Bool) → not b ≡ false → T b
-not-false true e = tt
-not-false false e = absurd (subst T e tt)
+use Rattle.rules.proofs.Refusals.{not-held}
 
 -- After the tests of the shape the first grid is in bounds, so are the others, and the search's own tests are left.
 after-shape :
@@ -39,7 +25,7 @@ after-shape size others inputs lent more e =
     let (sizes, e) = not-held _ _ e in
     let (lengths, e) = not-held _ _ e in
     let (first, rest) = neither (not (in-bounds size)) (any out-of-bounds others) bounds in
-    (not-false (in-bounds size) first, rest, e)
+    (holds (not-false (in-bounds size) first), rest, e)
 
 -- ---- each search: its grids are in bounds, its limit is no NaN, its budget is above 0, and no time is below 0
 
@@ -89,7 +75,7 @@ accepted-7 mask times values budget lent e =
     let (bounds, others, e) = after-shape _ _ _ _ _ e in
     let (bad, e) = not-held _ _ e in
     let (number, above) = neither (isNan budget) (le budget plus-zero) bad in
-    (bounds, not-false (in-bounds (times .size)) ((neither _ _ others) .0), number, above, (not-held _ _ e) .0)
+    (bounds, holds (not-false (in-bounds (times .size)) ((neither _ _ others) .0)), number, above, (not-held _ _ e) .0)
 
 pub accepted-8 :
     (times amounts : Grid Float) (budget : Float) (lent : Lent) → refusals-8 times amounts budget lent ≡ passes

@@ -3,6 +3,7 @@ pub mod Grids
 pub mod Neighbours
 pub mod AddedCosts
 pub mod Tests
+pub mod Refusals
 pub mod Any
 pub mod Inputs
 pub mod Nets

@@ -10,10 +10,10 @@ use mir.Val.{Fits}
 use Rattle.binary32.specs.Numbers.{plus-zero}
 use Rattle.fifo.specs.Machine.{passing}
 use Rattle.rules.specs.declared.Size.{Size}
-use Rattle.rules.specs.Sizes.{Grid, grid, Refusal, number-at, Judged, passes, stops, accepted, unless, first-that-holds, count}
+use Rattle.rules.specs.Sizes.{Grid, grid, number-at, Judged, passes, stops, accepted, unless, first-that-holds, count}
 use Rattle.rules.specs.Distances.{target}
 use Rattle.rules.specs.Sums.{Run, run-of, total-takes, from-mask-cell, runs-7, over-budget, sum-of, sums, refusal-7}
-use Rattle.rules.proofs.Tests.{never}
+use Rattle.rules.proofs.Refusals.{later-decide}
 use Rattle.rules.proofs.Totals.{summed-takes}
 use Rattle.sums.specs.declared.mask_cell.MaskSum.{MaskSum}
 use Rattle.sums.specs.declared.mask.Searched.{Searched}
@@ -24,26 +24,11 @@ use Rattle.sums.proofs.Starts.{runs-to, runs-next, runs-split, fold-nex
 
 -- ---- refusal 7
 
-stopped-passes : (refusal : Refusal) → stops refusal ≡ passes → ⊥
-stopped-passes refusal e = never cc
-
--- Where none of the first tests holds, the later ones decide.
-first-later : (tests more : List (Bool × Refusal)) → first-that-holds tests ≡ passes → first-that-holds (tests ++ more) ≡ first-that-holds more
-unfolding first-that-holds
-first-later [] more e = refl
-first-later ((holds, refusal) ∷ tests) more e = go holds (first-later tests more) e
-  where
-    go :
-        (b : Bool) → (first-that-holds tests ≡ passes → first-that-holds (tests ++ more) ≡ first-that-holds more)
-        → cond b (stops refusal) (first-that-holds tests) ≡ passes → cond b (stops refusal) (first-that-holds (tests ++ more)) ≡ first-that-holds more
-    go true later e = absurd (stopped-passes refusal e)
-    go false later e = later e
-
 module _ (times : Grid Float) (limit : Float) where
   later-runs : (runs more : List Run) → refusal-7 times limit runs ≡ passes → refusal-7 times limit (runs ++ more) ≡ refusal-7 times limit more
   unfolding refusal-7
   later-runs runs more none =
-      ap first-that-holds (map-append (over-budget times limit) runs more) ∙ first-later (map (over-budget times limit) runs) (map (over-budget times limit) more) none
+      ap first-that-holds (map-append (over-budget times limit) runs more) ∙ later-decide (map (over-budget times limit) runs) (map (over-budget times limit) more) none
 
   -- A run that is over the budget is refused, with the index of its mask cell.
   first-over : (run : Run) (more : List Run) → over-budget times limit run .0 ≡ true → refusal-7 times limit (run ∷ more) ≡ stops (number-at 7 (run .from))
