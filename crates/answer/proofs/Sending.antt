@@ -23,7 +23,7 @@ use Rattle.gridfile.specs.Contents.{bytes-in, floats-in, written-out, asked}
 use Rattle.gridfile.specs.Answers.{Written, number-field, grid-field, answer-file}
 use Rattle.gridfile.proofs.Stores.{number-field-long, grid-field-long}
 use Rattle.answer.specs.Answering.{outcome-of, longest, Sent, Answered}
-use Rattle.answer.specs.Lending.{stated, Told, found}
+use Rattle.answer.specs.Lending.{stated, OutcomeSent, found}
 use Rattle.answer.proofs.Lengths.{prefix-is}
 
 -- ---- the answer of a search is its outcome
@@ -43,10 +43,10 @@ stated-is (accepted t grid) (Accepted counts) {answer} p =
 -- ---- no answer is longer than the longest
 
 module _ {before after : List ℕ} {count : ℕ} where
-  pub short-refused : (k : ℕ) → Written (answer-file (refused (number k))) before after count → Told (refused (number k)) before after count
+  pub short-refused : (k : ℕ) → Written (answer-file (refused (number k))) before after count → OutcomeSent (refused (number k)) before after count
   short-refused k w = record { written = w; short = let all = w .all in let four = number-field-long 0x10 1 k in omega arith }
 
-  pub short-refused-at : (k i : ℕ) → Written (answer-file (refused (number-at k i))) before after count → Told (refused (number-at k i)) before after count
+  pub short-refused-at : (k i : ℕ) → Written (answer-file (refused (number-at k i))) before after count → OutcomeSent (refused (number-at k i)) before after count
   short-refused-at k i w = record {
     written = w;
     short =
@@ -57,7 +57,7 @@ module _ {before after : List ℕ} {count : ℕ} where
         omega arith;
   }
 
-  pub short-accepted : (t : ℕ) (grid : List Float) → length grid ≤ most-file-cells → Written (answer-file (accepted t grid)) before after count → Told (accepted t grid) before after count
+  pub short-accepted : (t : ℕ) (grid : List Float) → length grid ≤ most-file-cells → Written (answer-file (accepted t grid)) before after count → OutcomeSent (accepted t grid) before after count
   short-accepted t grid few w = record {
     written = w;
     short =
@@ -74,32 +74,32 @@ module _ {before after : List ℕ} {count : ℕ} where
 
 module _ {before after : List ℕ} {count : ℕ} where
   -- By the case that the code is in.
-  pub of-refusal : {is x : Refusal} → is ≡ x → Told (refused (refusal-number x)) before after count → Told (refused (refusal-number is)) before after count
-  of-refusal e sent = subst (λ (x : Refusal). Told (refused (refusal-number x)) before after count) (sym e) sent
+  pub of-refusal : {is x : Refusal} → is ≡ x → OutcomeSent (refused (refusal-number x)) before after count → OutcomeSent (refused (refusal-number is)) before after count
+  of-refusal e sent = subst (λ (x : Refusal). OutcomeSent (refused (refusal-number x)) before after count) (sym e) sent
 
-  pub of-answer : {is x : Answer} (cells : List Float) → is ≡ x → Told (stated x cells) before after count → Told (stated is cells) before after count
-  of-answer cells e sent = subst (λ (x : Answer). Told (stated x cells) before after count) (sym e) sent
+  pub of-answer : {is x : Answer} (cells : List Float) → is ≡ x → OutcomeSent (stated x cells) before after count → OutcomeSent (stated is cells) before after count
+  of-answer cells e sent = subst (λ (x : Answer). OutcomeSent (stated x cells) before after count) (sym e) sent
 
   -- The answer slice is the front of an array.
   pub of-front :
       (r : Answer) {meant : Outcome} (n : ℕ) (cells rest : List Float) → length cells ≡ n → stated r cells ≡ meant
-      → Told (stated r (take n (cells ++ rest))) before after count → Told meant before after count
-  of-front r n cells rest long is sent = subst (λ (o : Outcome). Told o before after count) (ap (stated r) (prefix-is n cells rest long) ∙ is) sent
+      → OutcomeSent (stated r (take n (cells ++ rest))) before after count → OutcomeSent meant before after count
+  of-front r n cells rest long is sent = subst (λ (o : Outcome). OutcomeSent o before after count) (ap (stated r) (prefix-is n cells rest long) ∙ is) sent
 
   -- On the grids that stand in the file.
   pub on-grids :
       (file : List ℕ) (request : Request) {targets obstacles : List ℕ} {times values : List Float}
       → targets ≡ bytes-in file (request .grids .targets) → obstacles ≡ bytes-in file (request .grids .obstacles)
       → times ≡ floats-in file (request .grids .times) → values ≡ floats-in file (request .grids .values)
-      → Told (found request targets obstacles times values) before after count → Told (outcome-of (written-out file (Good request))) before after count
+      → OutcomeSent (found request targets obstacles times values) before after count → OutcomeSent (outcome-of (written-out file (Good request))) before after count
   on-grids file request {targets} {obstacles} {times} {values} ts os tis vs sent =
-      subst (λ (v : List Float). Told (found request (bytes-in file (request .grids .targets)) (bytes-in file (request .grids .obstacles)) (floats-in file (request .grids .times)) v) before after count) vs
-      (subst (λ (ti : List Float). Told (found request (bytes-in file (request .grids .targets)) (bytes-in file (request .grids .obstacles)) ti values) before after count) tis
-      (subst (λ (o : List ℕ). Told (found request (bytes-in file (request .grids .targets)) o times values) before after count) os
-      (subst (λ (t : List ℕ). Told (found request t obstacles times values) before after count) ts sent)))
+      subst (λ (v : List Float). OutcomeSent (found request (bytes-in file (request .grids .targets)) (bytes-in file (request .grids .obstacles)) (floats-in file (request .grids .times)) v) before after count) vs
+      (subst (λ (ti : List Float). OutcomeSent (found request (bytes-in file (request .grids .targets)) (bytes-in file (request .grids .obstacles)) ti values) before after count) tis
+      (subst (λ (o : List ℕ). OutcomeSent (found request (bytes-in file (request .grids .targets)) o times values) before after count) os
+      (subst (λ (t : List ℕ). OutcomeSent (found request t obstacles times values) before after count) ts sent)))
 
   -- Of a file that was read so.
-  pub of-file : (file : List ℕ) {is : Parsed} → parsed file ≡ is → longest ≤ length before → Told (outcome-of (written-out file is)) before after count → Answered file before after count
+  pub of-file : (file : List ℕ) {is : Parsed} → parsed file ≡ is → longest ≤ length before → OutcomeSent (outcome-of (written-out file is)) before after count → Answered file before after count
   of-file file {is} read long sent =
       subst (λ (bytes : List ℕ). Sent bytes before after count)
       (ap (λ (p : Parsed). answer-file (outcome-of (written-out file p))) (sym read) ∙ ap (λ (t : Bool). cond t (answer-file (outcome-of (asked file))) []) (sym (le-leb longest (length before) long)))

@@ -38,8 +38,8 @@ stated (Accepted counts) cells = accepted (counts .takes) cells
 stated (Refused refusal) cells = refused (refusal-number refusal)
 
 -- The bytes of an outcome are sent.
-abbrev pub Told : Outcome → (before after : List ℕ) → ℕ → Type 0
-Told outcome before after count = Sent (answer-file outcome) before after count
+abbrev pub OutcomeSent : Outcome → (before after : List ℕ) → ℕ → Type 0
+OutcomeSent outcome before after count = Sent (answer-file outcome) before after count
 
 -- The outcome of a request, on its grids.
 abbrev pub found : Request → (targets obstacles : List ℕ) → (times values : List Float) → Outcome

@@ -11,7 +11,7 @@ ghost use Rattle.gridfile.specs.declared.request.Parsed.the-variants.{Good};
 ghost use Rattle.gridfile.specs.Request.{parsed};
 ghost use Rattle.gridfile.specs.Contents.{written-out};
 ghost use Rattle.answer.specs.Answering.{longest, outcome-of};
-ghost use Rattle.answer.specs.Lending.{Told};
+ghost use Rattle.answer.specs.Lending.{OutcomeSent};
 
 // The most bytes of a grid field. A byte grid of another length than n is for the search to refuse.
 const BYTES: usize = FIELD_MAX;
@@ -23,7 +23,7 @@ const FLOATS: usize = FIELD_MAX / 4;
 pub fn answer_request(request: Request, input: &[u8], output: &mut [u8]) -> usize
     requires { ⌜ parsed (now input) ≡ Good request ⌝ }
     requires { ⌜ longest ≤ length (now output) ⌝ }
-    ensures { λ r. ⌜ Told (outcome-of (written-out (now (input .entry)) (Good request))) (now (output .entry)) (now (output .exit)) r ⌝ }
+    ensures { λ r. ⌜ OutcomeSent (outcome-of (written-out (now (input .entry)) (Good request))) (now (output .entry)) (now (output .exit)) r ⌝ }
 {
     let mut targets = [0u8; BYTES];
     let mut obstacles = [0u8; BYTES];

@@ -16,7 +16,7 @@ ghost use mathlib.Core.Path.{_≡_};
 ghost use Prim.Native.Nat.{_≤_};
 ghost use lib.ListN.{length};
 ghost use Rattle.answer.specs.Answering.{longest};
-ghost use Rattle.answer.specs.Lending.{Small, Lends, stated, Told, found};
+ghost use Rattle.answer.specs.Lending.{Small, Lends, stated, OutcomeSent, found};
 
 // The program holds every grid that a file may ask for: 1,024 cells at most.
 const CELLS: usize = FILE_CELLS_MAX;
@@ -130,7 +130,7 @@ pub fn search(
 ) -> usize
     requires { ⌜ Small (request .size) ⌝ }
     requires { ⌜ longest ≤ length (now output) ⌝ }
-    ensures { λ r. ⌜ Told (found request (now (targets .entry)) (now (obstacles .entry)) (now (times .entry)) (now (values .entry))) (now (output .entry)) (now (output .exit)) r ⌝ }
+    ensures { λ r. ⌜ OutcomeSent (found request (now (targets .entry)) (now (obstacles .entry)) (now (times .entry)) (now (values .entry))) (now (output .entry)) (now (output .exit)) r ⌝ }
 {
     let size = request.size;
     let n = cell_count(size);

@@ -10,12 +10,12 @@ ghost use Rattle.rules.specs.Sizes.{refused};
 ghost use Rattle.calls.specs.Answer.{refusal-number};
 ghost use Rattle.gridfile.specs.Request.{most-file-cells};
 ghost use Rattle.answer.specs.Answering.{longest};
-ghost use Rattle.answer.specs.Lending.{stated, Told};
+ghost use Rattle.answer.specs.Lending.{stated, OutcomeSent};
 
 // Writes the number of a refusal, with its index where it has one.
 fn write_refusal(refusal: Refusal, output: &mut [u8]) -> usize
     requires { ⌜ longest ≤ length (now output) ⌝ }
-    ensures { λ r. ⌜ Told (refused (refusal-number refusal)) (now (output .entry)) (now (output .exit)) r ⌝ }
+    ensures { λ r. ⌜ OutcomeSent (refused (refusal-number refusal)) (now (output .entry)) (now (output .exit)) r ⌝ }
 {
     match refusal {
         Refusal::SizeOutOfBounds => write_refused(1, output),
@@ -32,7 +32,7 @@ fn write_refusal(refusal: Refusal, output: &mut [u8]) -> usize
 pub fn write_answer(answer: Answer, cells: &[f32], output: &mut [u8]) -> usize
     requires { ⌜ length (now cells) ≤ most-file-cells ⌝ }
     requires { ⌜ longest ≤ length (now output) ⌝ }
-    ensures { λ r. ⌜ Told (stated answer (now (cells .entry))) (now (output .entry)) (now (output .exit)) r ⌝ }
+    ensures { λ r. ⌜ OutcomeSent (stated answer (now (cells .entry))) (now (output .entry)) (now (output .exit)) r ⌝ }
 {
     match answer {
         Answer::Accepted(counts) => write_accepted(counts.takes, cells, output),

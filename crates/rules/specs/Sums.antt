@@ -20,6 +20,7 @@ pub record Run : Type 0 where
   pub takes : ℕ
   pub ends : State Float
 
+-- The run of the net from a cell.
 abbrev pub run-of : (ℕ → Net Float) → ℕ → Run
 run-of net c = record { from = c; takes = takes-of (net c); ends = finish (net c) }
 
@@ -40,6 +41,7 @@ from-mask-cell times m = record {
   nbrs = λ u. moves (times .size) (has-data times) (has-data times) (plus-half-sum times u) u;
 }
 
+-- Per mask cell with data and nonzero, in row order.
 unfoldable pub runs-7 : Grid ℕ → Grid Float → List Run
 runs-7 mask times = map (run-of (from-mask-cell times)) (passing (target mask) 0 (count (mask .size)))
 
@@ -86,6 +88,7 @@ unfoldable pub sums : Grid Float → Grid Float → Float → Bool → List Run 
 sums times values budget adjacent runs =
     foldl (λ answer run. set answer (run .from) (sum-of times values budget adjacent run)) (replicate (count (times .size)) plus-zero) runs
 
+-- Refusals 1 to 3, then 5 for a budget that is NaN or not above 0, and 6.
 unfoldable pub refusals-7 : Grid ℕ → Grid Float → Grid Float → Float → Lent → Judged
 refusals-7 mask times values budget lent = first-that-holds (
     shape (mask .size) (times .size ∷ values .size ∷ []) (length (mask .cells) ∷ length (times .cells) ∷ length (values .cells) ∷ []) lent (
@@ -95,9 +98,11 @@ refusals-7 mask times values budget lent = first-that-holds (
 abbrev pub over-budget : Grid Float → Float → Run → Bool × Refusal
 over-budget times budget run = (any (above-budget (run .ends .labels) budget) (listed times run), number-at 7 (run .from))
 
+-- The first mask cell in row order that is over the budget; only once the search runs.
 unfoldable pub refusal-7 : Grid Float → Float → List Run → Judged
 refusal-7 times budget runs = first-that-holds (map (over-budget times budget) runs)
 
+-- The takes and the sums, unless a mask cell is over the budget.
 unfoldable pub outcome-7 : Grid ℕ → Grid Float → Grid Float → Float → Bool → Lent → Outcome
 outcome-7 mask times values budget adjacent lent = unless (refusals-7 mask times values budget lent) (λ search.
     let runs = runs-7 mask times in
@@ -109,10 +114,11 @@ outcome-7 mask times values budget adjacent lent = unless (refusals-7 mask times
 abbrev pub time-or-quarter : Grid Float → ℕ → Float
 time-or-quarter times v = cond (has-data times v) (float times v) quarter-of-largest
 
+-- d + s * b.
 abbrev pub plus-time-or-quarter : Grid Float → Float → ℕ → Float → Float
 plus-time-or-quarter times s v d = add binary32 d (mul binary32 s (time-or-quarter times v))
 
--- From a target, d + s * b. Distances start at the f32 sum budget + 1. A target with nodata time takes nothing.
+-- From a target: distances start at the f32 sum budget + 1. A target with nodata time takes nothing.
 unfoldable pub from-amount : Grid Float → Float → ℕ → Net Float
 from-amount times budget t = record {
   cells = count (times .size);
@@ -123,10 +129,11 @@ from-amount times budget t = record {
   nbrs = moves (times .size) (λ v. true) (λ v. true) (plus-time-or-quarter times);
 }
 
--- Per amount with data and nonzero, in row order.
+-- An amount with data and nonzero.
 abbrev pub counts : Grid Float → ℕ → Bool
 counts amounts c = has-data amounts c && not (eq (float amounts c) plus-zero)
 
+-- Per amount that counts, in row order.
 unfoldable pub runs-8 : Grid Float → Grid Float → Float → List Run
 runs-8 times amounts budget = map (run-of (from-amount times budget)) (passing (counts amounts) 0 (count (times .size)))
 
@@ -138,6 +145,7 @@ gaining-one budget cells taken = cond (le (taken .1) budget) (joined (taken .0) 
 abbrev pub gaining-of : Float → List (ℕ × Float) → List ℕ
 gaining-of budget taken = foldl (gaining-one budget) [] taken
 
+-- Those that gain from one target, of all the cells that its run takes.
 unfoldable pub gaining : Grid Float → Float → ℕ → List ℕ
 gaining times budget t =
     let net = from-amount times budget t in
@@ -147,15 +155,18 @@ gaining times budget t =
 unfoldable pub gain : Float → List Float → List ℕ → List Float
 gain amount answer cells = foldl (λ answer c. set answer c (add binary32 (getD answer c plus-zero) amount)) answer cells
 
+-- The amounts are added from +0.0, in row order of the targets.
 unfoldable pub gains : Grid Float → Grid Float → Float → List Run → List Float
 gains times amounts budget runs =
     foldl (λ answer run. gain (float amounts (run .from)) answer (gaining times budget (run .from))) (replicate (count (times .size)) plus-zero) runs
 
+-- Refusals 1 to 3, then 5 for a budget that is NaN or not above 0, and 6.
 unfoldable pub refusals-8 : Grid Float → Grid Float → Float → Lent → Judged
 refusals-8 times amounts budget lent = first-that-holds (
     shape (times .size) (amounts .size ∷ []) (length (times .cells) ∷ length (amounts .cells) ∷ []) lent (
     bad-budget budget ∷ negative-time (times .cells) ∷ []))
 
+-- The takes and the gains.
 unfoldable pub outcome-8 : Grid Float → Grid Float → Float → Lent → Outcome
 outcome-8 times amounts budget lent = unless (refusals-8 times amounts budget lent) (λ search.
     let runs = runs-8 times amounts budget in

@@ -21,6 +21,7 @@ pub record Lengths (size : Size) (answer distances : List Float) (marks added qu
   pub added-length : length added ≡ count size
   pub queue-length : length queue ≡ suc (count size)
 
+-- Searches from amounts are to run: the ways are known, and the slices have their lengths.
 pub record Searching (size : Size) (times : List Float) (limit : Float) (answer distances : List Float) (marks added queue : List ℕ) : Type 0 where
   pub ways : Ways size times (from-amount (grid size times) limit)
   pub lengths : Lengths size answer distances marks added queue

@@ -21,6 +21,7 @@ pub record Lengths (size : Size) (distances : List Float) (marks listed met queu
   pub met-length : length met ≡ count size
   pub queue-length : length queue ≡ suc (count size)
 
+-- A search from a mask cell is to run: the ways are known, the buffers have their lengths, and the start is a cell.
 pub record Reaching (size : Size) (times : List Float) (start : ℕ) (distances : List Float) (marks listed met queue : List ℕ) : Type 0 where
   pub ways : Ways size times (from-mask-cell (grid size times))
   pub lengths : Lengths size distances marks listed met queue
