@@ -1,5 +1,4 @@
 -- The laws of this crate, for its own proofs and for those of the crates above it.
-pub mod Sides
 pub mod Lengths
 pub mod Fetching
 pub mod Sending

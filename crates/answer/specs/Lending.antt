@@ -3,11 +3,10 @@ use mathlib.Core.List.{List}
 use mathlib.Core.Path.{_≡_}
 use Prim.Native.Nat.{ℕ, suc, _≤_}
 use lib.Ieee.{Float}
-use lib.IntN.{pos}
 use lib.ListN.{length}
-use lib.Signed.{mag}
 use Rattle.rules.specs.declared.Size.{Size}
 use Rattle.rules.specs.Sizes.{Outcome, refused, accepted, count}
+use Rattle.cells.specs.Counting.{Countable}
 use Rattle.calls.specs.declared.answer.Answer.{Answer}
 use Rattle.calls.specs.declared.answer.Answer.the-variants.{Accepted, Refused}
 use Rattle.calls.specs.Answer.{refusal-number}
@@ -16,10 +15,9 @@ use Rattle.gridfile.specs.Request.{most-file-cells}
 use Rattle.gridfile.specs.Answers.{answer-file}
 use Rattle.answer.specs.Answering.{searched, Sent}
 
--- A size that a file can ask for: the sides are natural numbers, and n is at most 1,024.
+-- A size that a file can ask for: neither side is below 0, and n is at most 1,024. It may be outside of the library's bounds, which the search refuses.
 pub record Small (size : Size) : Type 0 where
-  pub rows-natural : size .rows ≡ pos (mag (size .rows))
-  pub cols-natural : size .cols ≡ pos (mag (size .cols))
+  pub sides : Countable size
   pub few : count size ≤ most-file-cells
 
 -- What a search is lent, at the lengths that the size asks for. Each search takes those of the work buffers that it has.

@@ -8,7 +8,6 @@
 mod file;
 mod grids;
 mod search;
-mod size;
 mod write;
 
 pub use file::LONGEST;

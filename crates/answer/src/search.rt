@@ -1,7 +1,7 @@
 // The search of a request, on buffers of the lengths that its size asks for.
-use crate::size::cell_count;
 use crate::write::write_answer;
 use calls::Answer;
+use cells::cell_count;
 use distances::distance_with_obstacles;
 use distances::distances_up_to;
 use distances::travel_distances_up_to;

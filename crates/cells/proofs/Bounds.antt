@@ -16,6 +16,7 @@ use Rattle.fifo.proofs.Lists.{holds}
 use Rattle.rules.proofs.Tests.{and-then, and-not}
 use Rattle.rules.specs.declared.Size.{Size}
 use Rattle.rules.specs.Sizes.{side-fits, count, in-bounds, same-number, same-size}
+use Rattle.cells.specs.Counting.{Countable}
 
 -- The bounds.
 abbrev pub side-max : ℕ
@@ -55,6 +56,9 @@ pub sides-fit : (size : Size) → T (in-bounds size) → T (side-fits (size .row
 sides-fit size inside =
     and-yes (side-fits (size .rows)) (side-fits (size .cols)) (and-yes (side-fits (size .rows) && side-fits (size .cols)) (leb (count size) cells-max) inside .0)
 
+pub countable : {size : Size} → T (in-bounds size) → Countable size
+countable {size} inside = let within = bounded size inside in record { rows-natural = within .rows-side .is-mag; cols-natural = within .cols-side .is-mag }
+
 -- ---- the tests of the code
 
 -- A signed number as the machine reads it back from its bits.
@@ -73,9 +77,12 @@ module _ {k : ℤ} (fits : SFits w32 k) where
 pub answered : (k : ℤ) → SFits w32 k → {answer tested : Bool} → answer ≡ side-fits (read k) → answer ≡ tested → side-fits k ≡ tested
 answered k fits means e = rw (← toZ-ofZ fits) (sym means ∙ e)
 
--- A side that fits is read back as the natural number that it is.
+-- A natural number is read back as it is, and so is a side that fits.
+natural-read : {k : ℤ} → SFits w32 k → k ≡ pos (mag k) → read k ≡ pos (mag k)
+natural-read fits natural = toZ-ofZ fits ∙ natural
+
 pub side-read : {k : ℤ} → Side k → read k ≡ pos (mag k)
-side-read {k} k-side = let most = k-side .most in toZ-ofZ (record { sfits = omega arith }) ∙ k-side .is-mag
+side-read {k} k-side = let most = k-side .most in natural-read (record { sfits = omega arith }) (k-side .is-mag)
 
 pub side-same : {k : ℤ} → Side k → read k ≡ k
 side-same k-side = side-read k-side ∙ sym (k-side .is-mag)
@@ -114,12 +121,20 @@ module _ {k : ℤ} (k-side : Side k) where
   pub cast-is : natAbs (read k) ≡ mag k
   cast-is = rw (side-read k-side)
 
-module _ (size : Size) (within : Bounded size) where
+-- A natural number without its sign: less than half of what 32 bits hold, so that two of them have a product that 64 bits hold.
+module _ {k : ℤ} (fits : SFits w32 k) (natural : k ≡ pos (mag k)) where
+  natural-most : mag k ≤ 2147483647
+  natural-most = let small = rw natural at (fits .sfits) in omega arith
+
+  pub natural-fits : T (nonNeg (read k)) × Fits w64 (natAbs (read k))
+  natural-fits = rw (natural-read fits natural) (tt, record { fits = let most = natural-most in omega arith })
+
+module _ (size : Size) (sides : Countable size) (rows-fit : SFits w32 (size .rows)) (cols-fit : SFits w32 (size .cols)) where
   pub cells-counted : natAbs (read (size .rows)) * natAbs (read (size .cols)) ≡ count size
-  cells-counted = rw (cast-is (within .rows-side), cast-is (within .cols-side))
+  cells-counted = rw (natural-read rows-fit (sides .rows-natural), natural-read cols-fit (sides .cols-natural))
 
   pub cells-fit : Fits w64 (natAbs (read (size .rows)) * natAbs (read (size .cols)))
-  cells-fit = rw cells-counted (record { fits = lt-of-le-of-lt (within .cells-most) (lit< tt) })
+  cells-fit = rw cells-counted (record { fits = lt-of-le-of-lt (mul-le-mul (natural-most rows-fit (sides .rows-natural)) (natural-most cols-fit (sides .cols-natural))) (lit< tt) })
 
 -- ---- two sizes
 

@@ -1,3 +1,4 @@
+pub mod Counting
 pub mod Neighbours
 pub mod Interior
 pub mod Storing

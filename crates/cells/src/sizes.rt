@@ -1,8 +1,8 @@
 // A grid's size: the bounds that it keeps, and the number of its cells.
 use rules::Size;
 ghost use mathlib.Core.Path.{_≡_};
-ghost use lib.Dec.{T};
 ghost use Rattle.rules.specs.Sizes.{side-fits, in-bounds, same-size, count};
+ghost use Rattle.cells.specs.Counting.{Countable};
 
 // The most rows, and the most columns.
 pub const SIDE_MAX: i32 = 32767;
@@ -37,9 +37,9 @@ pub fn same_size(a: Size, b: Size) -> bool
     a.rows == b.rows && a.cols == b.cols
 }
 
-// The number of cells.
+// The number of cells. Two sides that are not below 0 have a product that fits, within the bounds or not.
 pub fn cell_count(size: Size) -> usize
-    requires { ⌜ T (in-bounds size) ⌝ }
+    requires { ⌜ Countable size ⌝ }
     ensures { λ r. ⌜ r ≡ count size ⌝ }
 {
     (size.rows as usize) * (size.cols as usize)

@@ -62,7 +62,7 @@ slice-aggregate-search-4 : tie.Need-slice-aggregate-search-4
 slice-aggregate-search-4 c = prefix-long _ _ (array-share-prefix-values (c .before))
 
 search-requires : tie.Need-search-requires
-search-requires c κs = let start = c .before .before .before .before .before .before .before .before .before .before .before .before .before .before .before .before .before .before .before .before .before .before .before .before .before .before in let u = known start in (record { rows-natural = u .rows-natural; cols-natural = u .cols-natural; few = u .few }, start .pre .1)
+search-requires c κs = let start = c .before .before .before .before .before .before .before .before .before .before .before .before .before .before .before .before .before .before .before .before .before .before .before .before .before .before in let u = known start in (record { sides = record { rows-natural = u .rows-natural; cols-natural = u .cols-natural }; few = u .few }, start .pre .1)
 
 same-length : tie.Need-same-length
 same-length c = search needs

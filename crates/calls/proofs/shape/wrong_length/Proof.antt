@@ -2,14 +2,14 @@
 use mathlib.Core.Logic.{⊎-elim}
 use native.Mathlib.Omega.{arith}
 use borrow.Author.Needs.{needs}
-use Rattle.cells.proofs.Bounds.{bounded}
+use Rattle.cells.proofs.Bounds.{bounded, countable}
 use Rattle.rules.proofs.Tests.{said}
 use Rattle.calls.proofs.Lengths.{input-wrong, slice-wrong, queue-decides}
 use Rattle.calls.proofs.shape.wrong_length.Statement.{statement}
 use Rattle.calls.proofs.shape.wrong_length.Tie as tie
 
 cell-count-requires : tie.Need-cell-count-requires
-cell-count-requires c κs = search needs
+cell-count-requires c κs = countable (search needs)
 
 any-other-requires : tie.Need-any-other-requires
 any-other-requires c κs = search needs

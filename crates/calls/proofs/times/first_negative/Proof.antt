@@ -7,7 +7,7 @@ use lib.ListN.{length}
 use lib.Ieee.{nan}
 use mir.Syntax.{w64}
 use Rattle.rules.specs.Sizes.{below-zero}
-use Rattle.cells.proofs.Bounds.{cells-max, bounded, cast-fits, cells-counted}
+use Rattle.cells.proofs.Bounds.{cells-max, bounded, cast-fits, cast-is}
 use Rattle.calls.specs.Answer.{judged-as, Passes}
 use Rattle.calls.proofs.RowScans.{AtRow, AtColumn, scan-starts, row-starts, index-in, column-fails, column-passes, row-ends, scan-ends}
 use Rattle.calls.proofs.Judgements.{no-time-is-negative, first-negative-is}
@@ -38,7 +38,7 @@ rows-holds c =
     let within = bounded (start .args .size) (start .pre .0) in
     let few = within .cells-most in
     let long = start .pre .1 in
-    (scan-starts _ _ _ _ (cells-counted (start .args .size) within ∙ sym long), refl, omega arith)
+    (scan-starts _ _ _ _ (rw (cast-is (within .rows-side), cast-is (within .cols-side)) (sym long)), refl, omega arith)
 
 loop-holds : tie.Need-loop-holds Inv-loop μ-loop Inv-rows μ-rows
 loop-holds c = let scan = c .before .rows .inv in (row-starts _ _ _ _ (scan .0) (c .rows-test .taken), scan .1, scan .2)

@@ -3,6 +3,7 @@ use mathlib.Core.Path.{_≡_, sym, _∙_}
 use Prim.Native.Nat.{_≤_, _-_}
 use native.Mathlib.Omega.{arith}
 use Rattle.rules.specs.Sizes.{count}
+use Rattle.cells.proofs.Bounds.{countable}
 use Rattle.spread.specs.Buffers.{buffers}
 use Rattle.spread.specs.Begin.{BeganTo}
 use Rattle.spread.proofs.Firsts.{count-fits, next-fits}
@@ -19,7 +20,7 @@ abbrev μ-loop : tie.MeasureT-loop
     end - cell
 
 cell-count-requires : tie.Need-cell-count-requires Inv-loop μ-loop
-cell-count-requires c κs = c .before .before .before .before .before .before .before .pre .inputs .bounds
+cell-count-requires c κs = countable (c .before .before .before .before .before .before .before .pre .inputs .bounds)
 
 cast-end : tie.Need-cast-end Inv-loop μ-loop
 cast-end c = count-fits (c .before .before .before .before .before .before .before .before .args .search .size) (c .before .before .before .before .before .before .before .before .pre .inputs .bounds) (c .cell-count .ensures)

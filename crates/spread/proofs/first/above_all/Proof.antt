@@ -1,11 +1,12 @@
 -- `first::above_all` meets its contract. Assumes nothing.
+use Rattle.cells.proofs.Bounds.{countable}
 use Rattle.spread.proofs.Firsts.{one-more-fits, one-more-held, one-more-whole}
 use borrow.Author.Needs.{needs}
 use Rattle.spread.proofs.first.above_all.Statement.{statement}
 use Rattle.spread.proofs.first.above_all.Tie as tie
 
 cell-count-requires : tie.Need-cell-count-requires
-cell-count-requires c κs = search needs
+cell-count-requires c κs = countable (search needs)
 
 add-cells : tie.Need-add-cells
 add-cells c = one-more-fits (c .before .args .size) (c .before .pre) (c .cell-count .ensures)

@@ -1,13 +1,14 @@
 -- `run::run` meets its contract. Assumes nothing.
 use mathlib.Core.Path.{ap}
 use Prim.Native.Nat.{_*_}
+use Rattle.cells.proofs.Bounds.{countable}
 use Rattle.spread.proofs.Running.{square-fits, all-taken}
 use borrow.Author.Needs.{needs}
 use Rattle.spread.proofs.run.run.Statement.{statement}
 use Rattle.spread.proofs.run.run.Tie as tie
 
 cell-count-requires : tie.Need-cell-count-requires
-cell-count-requires c κs = search needs
+cell-count-requires c κs = countable (search needs)
 
 mul-take-some : tie.Need-mul-take-some
 mul-take-some c = let s = c .before .before .before .before .before .before .before .before .before .before .before in square-fits (s .args .search .size) (s .pre .setting .bounds) (c .before .before .before .before .cell-count .ensures)

@@ -3,6 +3,7 @@ use mathlib.Core.Path.{_≡_, sym, _∙_}
 use Prim.Native.Nat.{_≤_, _-_}
 use native.Mathlib.Omega.{arith}
 use Rattle.rules.specs.Sizes.{count}
+use Rattle.cells.proofs.Bounds.{countable}
 use Rattle.spread.proofs.Firsts.{count-fits, next-fits}
 use Rattle.sums.proofs.FromAmounts.{SummedTo, none-summed, next-summed, sum-fits, all-summed}
 use Rattle.sums.proofs.amounts.search_amounts.Statement.{statement}
@@ -17,7 +18,7 @@ abbrev μ-loop : tie.MeasureT-loop
     end - cell
 
 cell-count-requires : tie.Need-cell-count-requires Inv-loop μ-loop
-cell-count-requires c κs = c .before .before .before .before .before .before .before .pre .asked .ways .bounds
+cell-count-requires c κs = countable (c .before .before .before .before .before .before .before .pre .asked .ways .bounds)
 
 cast-end : tie.Need-cast-end Inv-loop μ-loop
 cast-end c = count-fits (c .before .before .before .before .before .before .before .before .args .size) (c .before .before .before .before .before .before .before .before .pre .asked .ways .bounds) (c .cell-count .ensures)
