@@ -2,11 +2,11 @@
 use std::fmt::Write;
 
 use haul::Refusal;
+use search::{BYTE_NODATA, Role, Search};
 
 use crate::asc::rows;
 use crate::fields::{self, FLAGS, Field, GRID, INDEX, NUMBERS, SIZE, STATUS, TAKES};
 use crate::numbers::{nine_digits, thousands};
-use crate::roles::{BYTE_NODATA, Role, Search};
 
 /// The rows and columns of a grid file, which an answer file does not repeat.
 pub type Size = (u16, u16);
@@ -47,8 +47,7 @@ fn status(answer_file: &[u8]) -> Option<u8> {
 }
 
 fn print_grid_file(fields: &[Field]) -> String {
-    let search =
-        fields[0].content.first().and_then(|number| Search::ALL.into_iter().find(|search| search.number() == *number));
+    let search = fields[0].content.first().copied().and_then(Search::from_number);
     let columns = fields.iter().find(|field| field.tag == SIZE).and_then(Field::exactly).map(columns_of);
     fields.iter().map(|field| print_input(field, search, columns)).collect()
 }

@@ -1,9 +1,9 @@
 //! The fields of document 01's grid files and answer files: a one-byte tag, a two-byte length, the content. Numbers are
 //! little-endian, floats go as their bits.
 use haul::BarrierDiagonals;
+use search::Role;
 
 use crate::grids::{Case, Cells, Layer};
-use crate::roles::Role;
 
 pub const FLAGS: u8 = 0x01;
 pub const SIZE: u8 = 0x02;

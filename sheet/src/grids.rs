@@ -2,11 +2,11 @@
 use std::path::{Path, PathBuf};
 
 use haul::{BarrierDiagonals, Grid};
+use search::{BYTE_NODATA, Role, Search};
 
 use crate::asc::{self, Asc, Header};
 use crate::numbers::read_float;
 use crate::options::Asked;
-use crate::roles::{BYTE_NODATA, Role, Search};
 
 /// Two grids lie on each other if all their corners do, up to so much of a cell: programs write coordinates with more or
 /// fewer digits.

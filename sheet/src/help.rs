@@ -1,6 +1,7 @@
 //! What `--help` says.
+use search::{Role, Search};
+
 use crate::options::{COMMANDS, Command};
-use crate::roles::{Role, Search};
 
 const TOP: &str = "\
 sheet: from a planner's ESRI ASCII grids (.asc) to an extraction sheet and its picture.

@@ -16,5 +16,4 @@ pub mod output;
 pub mod picture;
 pub mod ramp;
 pub mod refusals;
-pub mod roles;
 pub mod searches;

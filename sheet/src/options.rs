@@ -4,9 +4,9 @@ use std::path::PathBuf;
 
 use haul::BarrierDiagonals;
 use lexopt::Arg::{Long, Short, Value};
+use search::{Role, Search};
 
 use crate::numbers::read_float;
-use crate::roles::{Role, Search};
 
 /// A command that runs a search. Two of them, `distance` and `travel_distance`, stand for document 01's forms without a
 /// limit; given one, they are the search with it.

@@ -1,10 +1,10 @@
 //! The picture of a sheet: the map, and beside it a legend.
 use haul::BarrierDiagonals;
+use search::Role;
 
 use crate::canvas::{Area, BLACK, Canvas, Colour, LETTER, LINE, WHITE};
 use crate::grids::{Case, Cells};
 use crate::ramp;
-use crate::roles::Role;
 use crate::searches::Run;
 
 /// Small grids are drawn with cells of several pixels, so that the longer side has about so many.

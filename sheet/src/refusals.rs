@@ -1,9 +1,9 @@
 //! The library's refusals as sentences about the files that were given.
 use haul::{Place, Refusal};
+use search::Role;
 
 use crate::grids::Case;
 use crate::numbers::nine_digits;
-use crate::roles::Role;
 
 /// Why there is no sheet, with the file, the row and the column that it is about.
 pub fn sentence(refusal: Refusal, case: &Case) -> String {

@@ -2,9 +2,9 @@
 use std::time::{Duration, Instant};
 
 use haul::{Grid, Refusal, Sheet};
+use search::{Role, Search};
 
 use crate::grids::Case;
-use crate::roles::{Role, Search};
 
 /// A search that was run.
 #[derive(Debug)]

@@ -1,4 +1,5 @@
-//! What the grids of a search are for, and what each search takes, in document 01's words.
+//! The eight searches by number and name, and the grids, numbers and flags that each takes, in document 01's words. It
+//! links nothing, so that the oracle can have it before the library's archive is there.
 
 /// Nodata in a grid of bytes; in a grid of floats it is NaN.
 pub const BYTE_NODATA: u8 = 255;
@@ -17,7 +18,7 @@ pub enum Role {
 impl Role {
     pub const ALL: [Role; 6] = [Role::Targets, Role::Mask, Role::Obstacles, Role::Times, Role::Values, Role::Amounts];
 
-    /// The option that names the grid's file, and the grid's name in sentences.
+    /// Its name in sentences, and the option of `sheet` that names its file.
     pub fn name(self) -> &'static str {
         match self {
             Role::Targets => "targets",
@@ -62,6 +63,10 @@ impl Search {
         SumTargetsWithinTravelDistance,
     ];
 
+    pub fn from_number(number: u8) -> Option<Search> {
+        Search::ALL.into_iter().find(|search| search.number() == number)
+    }
+
     pub fn number(self) -> u8 {
         self as u8 + 1
     }
@@ -94,16 +99,43 @@ impl Search {
         }
     }
 
+    fn has(self, role: Role) -> bool {
+        self.roles().contains(&role)
+    }
+
+    /// Targets, or the mask of search 7.
+    pub fn has_targets(self) -> bool {
+        self.has(Role::Targets) || self.has(Role::Mask)
+    }
+
+    pub fn has_obstacles(self) -> bool {
+        self.has(Role::Obstacles)
+    }
+
+    pub fn has_times(self) -> bool {
+        self.has(Role::Times)
+    }
+
+    /// Values, or the amounts of search 8.
+    pub fn has_values(self) -> bool {
+        self.has(Role::Values) || self.has(Role::Amounts)
+    }
+
     pub fn has_cell_size(self) -> bool {
         matches!(self, DistancesUpTo | DistanceWithObstacles)
     }
 
-    pub fn has_diagonals(self) -> bool {
-        self == DistanceWithObstacles
-    }
-
     pub fn has_limit(self) -> bool {
         !matches!(self, DistanceWithObstacles | ValueAtClosestTarget | ValueAtClosestTravelTarget)
+    }
+
+    /// Searches 7 and 8, whose limit is a budget.
+    pub fn has_budget(self) -> bool {
+        matches!(self, SumWithinTravelDistance | SumTargetsWithinTravelDistance)
+    }
+
+    pub fn has_diagonals(self) -> bool {
+        self == DistanceWithObstacles
     }
 
     pub fn has_adjacent(self) -> bool {
