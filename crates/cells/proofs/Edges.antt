@@ -17,9 +17,10 @@ use mir.Facts.{toZ-ofZ, and-yes, yes-and}
 use Rattle.rules.specs.declared.Size.{Size}
 use Rattle.rules.specs.Sizes.{count}
 use Rattle.rules.specs.Cells.{offsets, index, row-of, col-of, within}
+use Rattle.cells.specs.Neighbours.{CellOf, Place, place-of}
 use Rattle.cells.specs.Storing.{Step, stay, on, back}
 use Rattle.rules.proofs.Tests.{and-then, and-not}
-use Rattle.cells.proofs.Bounds.{cells-max, Side, Bounded, read, side-read, cast-is, product-fits, product-read}
+use Rattle.cells.proofs.Bounds.{cells-max, Side, Bounded, bounded, read, side-read, side-same, cast-is, product-fits, product-read}
 
 -- ---- between the edges
 
@@ -176,3 +177,18 @@ module _ (size : Size) (bounds : Bounded size) (u : ℕ) (below : u < count size
 
   pub col-cast : toZ w32 (u % natAbs (read (size .cols))) ≡ pos (col-of size u)
   col-cast = toZ-ofZ col-cast-fits ∙ rw (cast-is (bounds .cols-side))
+
+module _ (size : Size) (u : ℕ) (cell : CellOf size u) where
+  cell-bounds : Bounded size
+  cell-bounds = bounded size (cell .bounds)
+
+  pub placed : (row col : ℤ) → row ≡ pos (row-of size u) → col ≡ pos (col-of size u) → (let place : Place = record { row = row; col = col } in place) ≡ place-of size u
+  placed row col row-is col-is = rw (row-is, col-is)
+
+  -- The two are read back from the struct as they are.
+  module _ {place : Place} (is : place ≡ place-of size u) where
+    pub place-row : read (place .row) ≡ pos (row-of size u)
+    place-row = rw is (side-same (inside-is-side (cell-bounds .rows-side) (inside (size .rows) (pos (row-of size u)) (row-between size cell-bounds u (cell .below)))))
+
+    pub place-col : read (place .col) ≡ pos (col-of size u)
+    place-col = rw is (side-same (inside-is-side (cell-bounds .cols-side) (inside (size .cols) (pos (col-of size u)) (col-between size cell-bounds u (cell .below)))))

@@ -2,25 +2,25 @@
 use mathlib.Core.Path.{_≡_, refl, sym, ap, _∙_}
 use mathlib.Core.Bool.{Bool, true, false, cond, false≢true}
 use mathlib.Core.List.{List, [], _∷_}
-use Prim.Native.Nat.{ℕ, suc, _+_, _-_, _*_, _/_, _%_, _≤_, _<_}
+use Prim.Native.Nat.{ℕ, suc, _+_, _-_, _*_, _≤_, _<_}
 use native.Mathlib.Nat.{add-zero, suc-mul, div-add-mod', lt-irrefl}
 use native.Mathlib.Numerals.{add-one}
 use native.Mathlib.Omega.{arith}
 use borrow.Author.Tests.{ltb-true}
 use lib.Dec.{ltb}
-use lib.IntN.{ℤ, pos, negsuc, natAbs, _+ℤ_}
+use lib.IntN.{ℤ, pos, negsuc, _+ℤ_}
 use lib.Signed.{mag, ltZ}
 use mir.Syntax.{w32}
-use mir.Val.{SFits, toZ}
+use mir.Val.{SFits}
 use Rattle.fifo.proofs.Lists.{is-true}
 use Rattle.rules.specs.declared.Size.{Size}
 use Rattle.rules.specs.Sizes.{count}
 use Rattle.rules.specs.Cells.{offsets, index, row-of, col-of, within, neighbour, neighbours}
-use Rattle.cells.specs.Neighbours.{CellOf, Lists}
+use Rattle.cells.specs.Neighbours.{CellOf, Place, place-of, Lists}
 use Rattle.cells.specs.Storing.{on}
 use Rattle.cells.specs.Interior.{Between, Inner, SaysInner, Interior, SaysInterior}
 use Rattle.cells.proofs.Bounds.{Side, side, Bounded, bounded, sides-fit, read, side-read, side-same}
-use Rattle.cells.proofs.Edges.{Inside, inside, between, inside-is-side, step-fits, stepped, index-below, row-cast, col-cast, row-between, col-between}
+use Rattle.cells.proofs.Edges.{Inside, inside, between, inside-is-side, step-fits, stepped, index-below, row-between, col-between, place-row, place-col}
 use Rattle.cells.proofs.NeighbourArray.{all-filled}
 
 -- ---- the test of the code
@@ -53,36 +53,29 @@ module _ {end k : ℤ} (here : Between end k) where
             record { before = ltb-true 0 (mag k) some; behind = ltb-true (mag k + 1) (mag end) less };
       }
 
-module _ (size : Size) (u : ℕ) (cell : CellOf size u) where
+module _ (size : Size) (u : ℕ) (cell : CellOf size u) {place : Place} (is : place ≡ place-of size u) where
   cell-bounds : Bounded size
   cell-bounds = bounded size (cell .bounds)
 
-  -- The row and the column as the code has them.
-  abbrev code-row : ℤ
-  code-row = toZ w32 (u / natAbs (read (size .cols)))
+  row-is : read (place .row) ≡ pos (row-of size u)
+  row-is = place-row size u cell is
 
-  abbrev code-col : ℤ
-  code-col = toZ w32 (u % natAbs (read (size .cols)))
+  col-is : read (place .col) ≡ pos (col-of size u)
+  col-is = place-col size u cell is
 
-  row-is : code-row ≡ pos (row-of size u)
-  row-is = row-cast size cell-bounds u (cell .below)
-
-  col-is : code-col ≡ pos (col-of size u)
-  col-is = col-cast size cell-bounds u (cell .below)
-
-  pub row-here : Between (read (size .rows)) code-row
+  pub row-here : Between (read (size .rows)) (read (place .row))
   row-here =
       rw (side-same (cell-bounds .rows-side), row-is)
       (record { side = sides-fit size (cell .bounds) .0; here = row-between size cell-bounds u (cell .below) })
 
-  pub col-here : Between (read (size .cols)) code-col
+  pub col-here : Between (read (size .cols)) (read (place .col))
   col-here =
       rw (col-is, side-same (cell-bounds .cols-side))
       (record { side = sides-fit size (cell .bounds) .1; here = col-between size cell-bounds u (cell .below) })
 
   -- What the tests of the row and of the column say of the cell.
   pub interior-said :
-      {by-row by-col : Bool} → SaysInner (read (size .rows)) code-row by-row → by-row ≡ true → SaysInner (read (size .cols)) code-col by-col
+      {by-row by-col : Bool} → SaysInner (read (size .rows)) (read (place .row)) by-row → by-row ≡ true → SaysInner (read (size .cols)) (read (place .col)) by-col
       → SaysInterior size u by-col
   interior-said rows-say said cols-say =
       let of-row : Inner (size .rows) (pos (row-of size u)) = rw (side-same (cell-bounds .rows-side), row-is) at (rows-say .says said) in

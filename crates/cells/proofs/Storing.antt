@@ -2,21 +2,21 @@
 use mathlib.Core.Path.{_≡_, refl, sym, _∙_}
 use mathlib.Core.Bool.{Bool, true, false, cond, _&&_}
 use mathlib.Core.List.{List, [], _∷_}
-use Prim.Native.Nat.{ℕ, _+_, _/_, _%_}
+use Prim.Native.Nat.{ℕ, _+_}
 use native.Mathlib.Nat.{add-zero}
-use lib.IntN.{ℤ, pos, natAbs, _+ℤ_}
+use lib.IntN.{ℤ, pos, _+ℤ_}
 use lib.ListN.{length, getD, set}
 use lib.Seq.{sets}
 use lib.Signed.{mag}
 use mir.Syntax.{w32}
-use mir.Val.{SFits, toZ}
+use mir.Val.{SFits}
 use Rattle.rules.specs.declared.Size.{Size}
 use Rattle.rules.specs.Cells.{offsets, index, row-of, col-of, within, neighbour}
-use Rattle.cells.specs.Neighbours.{CellOf}
+use Rattle.cells.specs.Neighbours.{CellOf, Place, place-of}
 use Rattle.cells.specs.Storing.{InGrid, Step, Stepping, Neighbour, At, Outside, cells-at, Leads, Stored}
 use Rattle.fifo.proofs.Lists.{holds}
 use Rattle.cells.proofs.Bounds.{Bounded, bounded, read, side-same}
-use Rattle.cells.proofs.Edges.{Inside, inside, inside-is-side, row-cast, col-cast, row-between, col-between}
+use Rattle.cells.proofs.Edges.{Inside, inside, inside-is-side, row-between, col-between, place-row, place-col}
 use Rattle.cells.proofs.Edges.{row-offset, col-offset, step-read, step-fits, stepped}
 
 -- ---- the place one step from a place in the grid
@@ -64,14 +64,14 @@ module _ (size : Size) (row col : ℤ) {down across : ℤ} (from : Stepping size
       → cell ≡ index size (mag (row +ℤ down)) (mag (col +ℤ across))
   stepped-index means = rw (← to-row, ← to-col) means
 
--- A cell's own row and column, as the code has them, are in the grid.
-pub cell-in-grid : (size : Size) (u : ℕ) → CellOf size u → InGrid size (toZ w32 (u / natAbs (read (size .cols)))) (toZ w32 (u % natAbs (read (size .cols))))
-cell-in-grid size u cell =
+-- A cell's own row and column are in the grid.
+pub cell-in-grid : (size : Size) (u : ℕ) → CellOf size u → {place : Place} → place ≡ place-of size u → InGrid size (read (place .row)) (read (place .col))
+cell-in-grid size u cell is =
     let bounds = bounded size (cell .bounds) in
     record {
       bounds = cell .bounds;
-      row-in = rw (row-cast size bounds u (cell .below)) (row-between size bounds u (cell .below));
-      col-in = rw (col-cast size bounds u (cell .below)) (col-between size bounds u (cell .below));
+      row-in = rw (place-row size u cell is) (row-between size bounds u (cell .below));
+      col-in = rw (place-col size u cell is) (col-between size bounds u (cell .below));
     }
 
 -- ---- where a step leads

@@ -2,16 +2,22 @@
 use mathlib.Core.Path.{_≡_}
 use Prim.Native.Nat.{ℕ, _-_, _≤_, _<_}
 use lib.Dec.{T}
+use lib.IntN.{pos}
 use lib.ListN.{length, getD, take, drop, replicate}
 use Rattle.rules.specs.declared.Size.{Size}
 use Rattle.rules.specs.Sizes.{in-bounds, count}
-use Rattle.rules.specs.Cells.{offsets, neighbours, straight-neighbours, diagonal-neighbours}
+use Rattle.rules.specs.Cells.{offsets, row-of, col-of, neighbours, straight-neighbours, diagonal-neighbours}
 pub use Rattle.cells.specs.declared.neighbours.Neighbours.{Neighbours}
+pub use Rattle.cells.specs.declared.neighbours.Place.{Place}
 
 -- The size is within the bounds, and u is a cell of a grid of that size.
 pub record CellOf (size : Size) (u : ℕ) : Type 0 where
   pub bounds : T (in-bounds size)
   pub below : u < count size
+
+-- A cell's row and column, signed as the code has them.
+abbrev pub place-of : Size → ℕ → Place
+place-of size u = record { row = pos (row-of size u); col = pos (col-of size u) }
 
 -- The struct holds u's neighbours in trying order: first the `sideways` of them that are right and left, up to `straight` those below and
 -- above, up to `count` the diagonal ones. The entries past them are 0, so that the size and the cell decide the whole struct.

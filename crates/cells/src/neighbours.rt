@@ -3,7 +3,7 @@ use rules::Size;
 ghost use mathlib.Core.Path.{_≡_};
 ghost use lib.Signed.{mag};
 ghost use Rattle.rules.specs.Cells as Cells;
-ghost use Rattle.cells.specs.Neighbours.{CellOf, Lists};
+ghost use Rattle.cells.specs.Neighbours.{CellOf, place-of, Lists};
 ghost use Rattle.cells.specs.Storing.{InGrid, Stepping, Leads, Storing, Stored};
 ghost use Rattle.cells.specs.Interior.{Interior, Between, SaysInner, SaysInterior};
 
@@ -41,6 +41,23 @@ fn index(size: Size, row: i32, col: i32) -> u32
     ensures { λ r. ⌜ r ≡ Cells.index size (mag row) (mag col) ⌝ }
 {
     (row * size.cols + col) as u32
+}
+
+// The row and the column of a cell.
+pub struct Place {
+    pub row: i32,
+    pub col: i32,
+}
+
+// Where a cell stands.
+pub fn place_of(size: Size, cell: u32) -> Place
+    requires { ⌜ CellOf size cell ⌝ }
+    ensures { λ r. ⌜ r ≡ place-of size cell ⌝ }
+{
+    let cols = size.cols as u32;
+    let row = (cell / cols) as i32;
+    let col = (cell % cols) as i32;
+    Place { row, col }
 }
 
 // What stands at an offset from a cell: another cell, or nothing where the grid ends.
@@ -95,16 +112,14 @@ pub fn neighbours_of(size: Size, cell: u32) -> Neighbours
     requires { ⌜ CellOf size cell ⌝ }
     ensures { λ r. ⌜ Lists size cell r ⌝ }
 {
-    let cols = size.cols as u32;
-    let row = (cell / cols) as i32;
-    let col = (cell % cols) as i32;
+    let place = place_of(size, cell);
     let mut cells = [0u32; 8];
     let mut sideways: usize = 0;
     let mut straight: usize = 0;
     let mut count: usize = 0;
     let mut i: usize = 0;
     while i < 8 {
-        count = store_neighbour(&mut cells, count, size, row, col, i);
+        count = store_neighbour(&mut cells, count, size, place.row, place.col, i);
         i += 1;
         if i == 2 {
             sideways = count;
@@ -134,10 +149,8 @@ fn is_interior(size: Size, cell: u32) -> bool
     requires { ⌜ CellOf size cell ⌝ }
     ensures { λ r. ⌜ SaysInterior size cell r ⌝ }
 {
-    let cols = size.cols as u32;
-    let row = (cell / cols) as i32;
-    let col = (cell % cols) as i32;
-    is_inner(size.rows, row) && is_inner(size.cols, col)
+    let place = place_of(size, cell);
+    is_inner(size.rows, place.row) && is_inner(size.cols, place.col)
 }
 
 // The neighbours of a cell at no edge: all eight are there, so that no more is tested.

@@ -4,6 +4,7 @@ use crate::summing::add_value;
 use crate::summing::is_above;
 use cells::Neighbour;
 use cells::neighbour_at;
+use cells::place_of;
 use rules::Size;
 ghost use mathlib.Core.List.{[], _∷_};
 ghost use lib.ListN.{take};
@@ -74,13 +75,11 @@ fn add_around(
     requires { ⌜ Around size (now values) (now distances) (now met) cell ⌝ }
     ensures { λ r. ⌜ Adjoins (now (values .entry)) (now (distances .entry)) budget (neighbours size cell adjacent-offsets) (now (met .entry)) sum (now (met .exit)) r ⌝ }
 {
-    let cols = size.cols as u32;
-    let row = (cell / cols) as i32;
-    let col = (cell % cols) as i32;
+    let place = place_of(size, cell);
     let mut total = sum;
     for i in 0..4 {
         let offset = ADJACENT[i];
-        let there = neighbour_at(size, row, col, offset[0], offset[1]);
+        let there = neighbour_at(size, place.row, place.col, offset[0], offset[1]);
         total = add_there(there, values, distances, budget, total, met);
     }
     total

@@ -3,45 +3,30 @@ use mathlib.Core.Path.{_≡_, refl}
 use mathlib.Core.Logic.{inl, inr, ⊎-elim}
 use Prim.Native.Nat.{ℕ, _+_, _-_}
 use native.Mathlib.Omega.{arith}
-use mir.Syntax.{w32}
-use Rattle.cells.proofs.Bounds.{Bounded, bounded, cast-fits}
-use Rattle.cells.proofs.Edges.{cols-cast-some, row-cast-fits, col-cast-fits, row-cast, col-cast}
+use borrow.Author.Needs.{needs}
+use Rattle.cells.proofs.Edges.{place-row, place-col}
 use Rattle.cells.proofs.Storing.{cell-in-grid}
 use Rattle.cells.proofs.NeighbourArray.{Filled, Recorded, none-filled, more-filled, all-filled}
 use Rattle.cells.proofs.neighbours.neighbours_of.Statement.{statement}
 use Rattle.cells.proofs.neighbours.neighbours_of.Tie as tie
 
 abbrev Inv-loop : tie.InvT-loop
-Inv-loop size cell cols row col cells₀ sideways₀ straight₀ count₀ i₀ cells sideways straight count i = Filled size cell cells sideways straight count i
+Inv-loop size cell place cells₀ sideways₀ straight₀ count₀ i₀ cells sideways straight count i = Filled size cell cells sideways straight count i
 
 abbrev μ-loop : tie.MeasureT-loop
-μ-loop size cell cols row col cells₀ sideways₀ straight₀ count₀ i₀ cells sideways straight count i = 8 - i
+μ-loop size cell place cells₀ sideways₀ straight₀ count₀ i₀ cells sideways straight count i = 8 - i
 
-bounds : (c : tie.Start Inv-loop μ-loop) → Bounded (c .args .size)
-bounds c = bounded (c .args .size) (c .pre .bounds)
-
-cast-cols : tie.Need-cast-cols Inv-loop μ-loop
-cast-cols c = cast-fits (bounds (c .before .before) .cols-side) w32 tt
-
-div-row : tie.Need-div-row Inv-loop μ-loop
-div-row c = let s = c .before .before in cols-cast-some (s .args .size) (bounds s) (s .args .cell) (s .pre .below)
-
-cast-row : tie.Need-cast-row Inv-loop μ-loop
-cast-row c = let s = c .before .before in row-cast-fits (s .args .size) (bounds s) (s .args .cell) (s .pre .below)
-
-rem-col : tie.Need-rem-col Inv-loop μ-loop
-rem-col c = let s = c .before .before in cols-cast-some (s .args .size) (bounds s) (s .args .cell) (s .pre .below)
-
-cast-col : tie.Need-cast-col Inv-loop μ-loop
-cast-col c = let s = c .before .before in col-cast-fits (s .args .size) (bounds s) (s .args .cell) (s .pre .below)
+place-of-requires : tie.Need-place-of-requires Inv-loop μ-loop
+place-of-requires c κs = search needs
 
 loop-holds : tie.Need-loop-holds Inv-loop μ-loop
-loop-holds c = none-filled (c .before .before .args .size) (c .before .before .args .cell)
+loop-holds c = none-filled (c .before .args .size) (c .before .args .cell)
 
 store-neighbour-requires : tie.Need-store-neighbour-requires Inv-loop μ-loop
 store-neighbour-requires c κs =
-    let s = c .before .before .before .before .before in
-    record { place = cell-in-grid (s .args .size) (s .args .cell) (s .pre); offset-in = omega arith; free = omega arith }
+    let found = c .before .before .before .before .before in
+    let s = found .before in
+    record { place = cell-in-grid (s .args .size) (s .args .cell) (s .pre) (found .place-of .ensures); offset-in = omega arith; free = omega arith }
 
 add-i : tie.Need-add-i Inv-loop μ-loop
 add-i c = omega arith
@@ -52,22 +37,22 @@ loop-less c = omega arith
 -- A turn, up to where the straight ones' count is recorded.
 at-two :
     (c : tie.Joined1 Inv-loop μ-loop)
-    → let head = c .before .before .before .before in Recorded 2 (head .loop .i + 1) (c .before .store-neighbour .result) (head .loop .sideways) (c .if1 .sideways)
+    → let head = c .before .before .before .before .before .before in Recorded 2 (head .loop .i + 1) (c .before .store-neighbour .result) (head .loop .sideways) (c .if1 .sideways)
 at-two c = ⊎-elim (λ w. inl (w .0 .taken, w .1)) (λ w. inr (w .0 .left, w .1)) (c .if1 .came)
 
 turned :
     (c : tie.Joined1 Inv-loop μ-loop) (straight : ℕ)
-    → let head = c .before .before .before .before in let s = head .before .before .before in let call = c .before .store-neighbour in
+    → let head = c .before .before .before .before .before .before in let s = head .before .before in let call = c .before .store-neighbour in
     Recorded 4 (head .loop .i + 1) (call .result) (head .loop .straight) straight
     → Filled (s .args .size) (s .args .cell) (call .last .0) (c .if1 .sideways) straight (call .result) (head .loop .i + 1)
 turned c straight at-four =
-    let head = c .before .before .before .before in
-    let s = head .before .before .before in
+    let head = c .before .before .before .before .before .before in
+    let s = head .before .before in
     let stored = c .before .store-neighbour .ensures in
     let size = s .args .size in
     let cell = s .args .cell in
-    let row-is = row-cast size (bounds s) cell (s .pre .below) in
-    let col-is = col-cast size (bounds s) cell (s .pre .below) in
+    let row-is = place-row size cell (s .pre) (head .before .place-of .ensures) in
+    let col-is = place-col size cell (s .pre) (head .before .place-of .ensures) in
     more-filled size cell (head .loop .inv) (omega arith) (stored .stored cell row-is col-is) (stored .counted cell row-is col-is) (at-two c) at-four
 
 loop-again : tie.Need-loop-again Inv-loop μ-loop
@@ -77,11 +62,11 @@ loop-less-2 : tie.Need-loop-less-2 Inv-loop μ-loop
 loop-less-2 c = omega arith
 
 loop-again-2 : tie.Need-loop-again-2 Inv-loop μ-loop
-loop-again-2 c = turned (c .before) (c .before .before .before .before .before .loop .straight) (inr (c .if2 .left, refl))
+loop-again-2 c = turned (c .before) (c .before .before .before .before .before .before .before .loop .straight) (inr (c .if2 .left, refl))
 
 returns : tie.Need-returns Inv-loop μ-loop
 returns c =
-    let s = c .before .before .before .before in
+    let s = c .before .before .before in
     let last : c .before .loop .i ≡ 8 = omega arith in
     all-filled (s .pre) (rw last at (c .before .loop .inv))
 
@@ -91,11 +76,7 @@ neighbours-of-spec =
     (tie.spec
     Inv-loop
     μ-loop
-    cast-cols
-    div-row
-    cast-row
-    rem-col
-    cast-col
+    place-of-requires
     loop-holds
     store-neighbour-requires
     add-i

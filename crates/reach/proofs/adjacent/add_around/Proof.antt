@@ -5,11 +5,9 @@ use native.Mathlib.Omega.{arith}
 use lib.ListN.{take, getD}
 use mathlib.Core.List.{[]}
 use borrow.Author.Needs.{needs}
-use mir.Syntax.{w32}
 use Rattle.cells.specs.Neighbours.{CellOf}
 use Rattle.cells.specs.Storing.{cells-at}
-use Rattle.cells.proofs.Bounds.{Bounded, bounded, cast-fits}
-use Rattle.cells.proofs.Edges.{cols-cast-some, row-cast-fits, col-cast-fits, row-cast, col-cast}
+use Rattle.cells.proofs.Edges.{place-row, place-col}
 use Rattle.cells.proofs.Storing.{cell-in-grid, stepping-read, leads-by-step, leads-at}
 use Rattle.rules.specs.Cells.{neighbour, neighbours}
 use Rattle.rules.specs.Sums.{adjacent-offsets}
@@ -19,13 +17,10 @@ use Rattle.reach.proofs.adjacent.add_around.Statement.{statement}
 use Rattle.reach.proofs.adjacent.add_around.Tie as tie
 
 abbrev Inv-loop : tie.InvT-loop
-Inv-loop size cell values distances budget sum met₀ cols row col total₀ i₀ met total i = (i ≤ 4) × Adjoins values distances budget (neighbours size cell (take i adjacent-offsets)) met₀ sum met total
+Inv-loop size cell values distances budget sum met₀ place total₀ i₀ met total i = (i ≤ 4) × Adjoins values distances budget (neighbours size cell (take i adjacent-offsets)) met₀ sum met total
 
 abbrev μ-loop : tie.MeasureT-loop
-μ-loop size cell values distances budget sum met₀ cols row col total₀ i₀ met total i = 4 - i
-
-bounds : (s : tie.Start Inv-loop μ-loop) → Bounded (s .args .size)
-bounds s = bounded (s .args .size) (s .pre .fits .bounds)
+μ-loop size cell values distances budget sum met₀ place total₀ i₀ met total i = 4 - i
 
 cell-of : (s : tie.Start Inv-loop μ-loop) → CellOf (s .args .size) (s .args .cell)
 cell-of s = record { bounds = s .pre .fits .bounds; below = s .pre .inside }
@@ -33,32 +28,21 @@ cell-of s = record { bounds = s .pre .fits .bounds; below = s .pre .inside }
 -- The offset of this turn leads to the neighbour of the rules.
 led :
     (c : tie.After-neighbour-at Inv-loop μ-loop)
-    → let a = c .before .before .before .before .before .before .before .before .before .before .before .args in cells-at (c .neighbour-at .result) ≡ neighbour (a .size) (a .cell) (getD adjacent-offsets (c .before .before .before .before .before .loop .i) [])
+    → let at = c .before .before .before .before .before .before .before in let a = at .before .before .before .before .before .args in
+    cells-at (c .neighbour-at .result) ≡ neighbour (a .size) (a .cell) (getD adjacent-offsets (at .loop .i) [])
 led c =
-    let s = c .before .before .before .before .before .before .before .before .before .before .before in
-    let size = s .args .size in
-    let cell = s .args .cell in
-    let i = c .before .before .before .before .before .loop .i in
+    let at = c .before .before .before .before .before .before .before in
+    let s = at .before .before .before .before .before in
+    let place = at .before .place-of .ensures in
+    let i = at .loop .i in
     let to = leads-by-step (steps i .0) (steps i .1) (c .neighbour-at .ensures) in
-    leads-at (getD adjacent-offsets i []) to cell (row-cast size (bounds s) cell (s .pre .inside)) (col-cast size (bounds s) cell (s .pre .inside))
+    leads-at (getD adjacent-offsets i []) to (s .args .cell) (place-row (s .args .size) (s .args .cell) (cell-of s) place) (place-col (s .args .size) (s .args .cell) (cell-of s) place)
 
-cast-cols : tie.Need-cast-cols Inv-loop μ-loop
-cast-cols c = cast-fits (bounds (c .before .before .before .before .before) .cols-side) w32 tt
-
-div-row : tie.Need-div-row Inv-loop μ-loop
-div-row c = let s = c .before .before .before .before .before in cols-cast-some (s .args .size) (bounds s) (s .args .cell) (s .pre .inside)
-
-cast-row : tie.Need-cast-row Inv-loop μ-loop
-cast-row c = let s = c .before .before .before .before .before in row-cast-fits (s .args .size) (bounds s) (s .args .cell) (s .pre .inside)
-
-rem-col : tie.Need-rem-col Inv-loop μ-loop
-rem-col c = let s = c .before .before .before .before .before in cols-cast-some (s .args .size) (bounds s) (s .args .cell) (s .pre .inside)
-
-cast-col : tie.Need-cast-col Inv-loop μ-loop
-cast-col c = let s = c .before .before .before .before .before in col-cast-fits (s .args .size) (bounds s) (s .args .cell) (s .pre .inside)
+place-of-requires : tie.Need-place-of-requires Inv-loop μ-loop
+place-of-requires c κs = cell-of (c .before .before .before)
 
 loop-holds : tie.Need-loop-holds Inv-loop μ-loop
-loop-holds c = let s = c .before .before .before .before .before in (omega arith, around-none (s .args .size) (s .args .cell))
+loop-holds c = let s = c .before .before .before .before in (omega arith, around-none (s .args .size) (s .args .cell))
 
 mul-offset : tie.Need-mul-offset Inv-loop μ-loop
 mul-offset c = omega arith
@@ -74,15 +58,16 @@ array-copy-out-neighbour-at-2 c = search needs
 
 neighbour-at-requires : tie.Need-neighbour-at-requires Inv-loop μ-loop
 neighbour-at-requires c κs =
-    let s = c .before .before .before .before .before .before .before .before .before .before in
-    let i = c .before .before .before .before .loop .i in
-    stepping-read (steps i .0) (steps i .1) (cell-in-grid (s .args .size) (s .args .cell) (cell-of s))
+    let at = c .before .before .before .before .before .before in
+    let s = at .before .before .before .before .before in
+    let i = at .loop .i in
+    stepping-read (steps i .0) (steps i .1) (cell-in-grid (s .args .size) (s .args .cell) (cell-of s) (at .before .place-of .ensures))
 
 add-there-requires : tie.Need-add-there-requires Inv-loop μ-loop
 add-there-requires c κs =
-    let s = c .before .before .before .before .before .before .before .before .before .before .before .before in
-    let at = c .before .before .before .before .before .before .loop in
-    trying-there (s .args .cell) (getD adjacent-offsets (at .i) []) (still-fitting (s .pre .fits) (at .inv .1 .same-length)) (led (c .before))
+    let at = c .before .before .before .before .before .before .before .before in
+    let s = at .before .before .before .before .before in
+    trying-there (s .args .cell) (getD adjacent-offsets (at .loop .i) []) (still-fitting (s .pre .fits) (at .loop .inv .1 .same-length)) (led (c .before))
 
 add-i : tie.Need-add-i Inv-loop μ-loop
 add-i c = omega arith
@@ -92,10 +77,10 @@ loop-less c = omega arith
 
 loop-again : tie.Need-loop-again Inv-loop μ-loop
 loop-again c =
-    let s = c .before .before .before .before .before .before .before .before .before .before .before .before .before .before .before in
-    let at = c .before .before .before .before .before .before .before .before .before .loop in
-    let less = c .before .before .before .before .before .before .before .before .loop-test .taken in
-    (omega arith, around-more (s .args .size) (s .args .cell) (at .i) less (led (c .before .before .before .before)) (at .inv .1) (c .before .before .add-there .ensures))
+    let at = c .before .before .before .before .before .before .before .before .before .before .before in
+    let s = at .before .before .before .before .before in
+    let less = c .before .before .before .before .before .before .before .before .before .before .loop-test .taken in
+    (omega arith, around-more (s .args .size) (s .args .cell) (at .loop .i) less (led (c .before .before .before .before)) (at .loop .inv .1) (c .before .before .add-there .ensures))
 
 same-length : tie.Need-same-length Inv-loop μ-loop
 same-length c = c .before .loop .inv .1 .same-length
@@ -112,11 +97,7 @@ add-around-spec =
     (tie.spec
     Inv-loop
     μ-loop
-    cast-cols
-    div-row
-    cast-row
-    rem-col
-    cast-col
+    place-of-requires
     loop-holds
     mul-offset
     array-copy-out-offset
