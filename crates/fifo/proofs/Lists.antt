@@ -45,7 +45,7 @@ empty-or-not (a ∷ rest) = inr (a, rest, refl)
 pub no-head {ℓ} : {A : Type ℓ} {l : List A} {a : A} {rest : List A} → l ≡ a ∷ rest → l ≡ [] → ⊥
 no-head e z = let bad : _≡_ {A = ℕ} 0 1 = cc in omega arith
 
--- Inside a list the value that it is read with outside does not matter.
+-- At a place inside a list the default does not matter.
 pub getD-any : {A : Type 0} (l : List A) (i : ℕ) (x y : A) → i < length l → getD l i x ≡ getD l i y
 getD-any [] i x y inside = absurd (omega arith)
 getD-any (a ∷ l) zero x y inside = refl

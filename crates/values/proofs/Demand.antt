@@ -1,4 +1,5 @@
 -- From the promises alone: each value of an accepted call is that of a closest target, and the takes are within the square. Assumes nothing.
+use mathlib.Core.Bool.{false}
 use mathlib.Core.List.{List}
 use mathlib.Core.Path.{_≡_, refl, ap, _∙_}
 use Prim.Native.Nat.{ℕ, _*_, _≤_}
