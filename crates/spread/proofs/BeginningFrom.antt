@@ -12,31 +12,29 @@ use lib.ListN.{length, getD, set, replicate, length-set, length-replicate, getD-
 use lib.Seq.{getD-set-same, getD-set-other}
 use Rattle.binary32.specs.Nodata.{nodata}
 use Rattle.binary32.specs.Numbers.{plus-zero, one}
-use Rattle.cells.specs.Ring.{contents, NewRing}
+use Rattle.cells.specs.Ring.{NewRing}
 use Rattle.cells.specs.declared.ring.Ring.{Ring}
 use Rattle.fifo.specs.Machine.{among, passing, joined}
 use Rattle.fifo.proofs.Lists.{same-or-not}
 use Rattle.rules.specs.Numbers.{infinity}
 use Rattle.rules.specs.Sizes.{count}
+use Rattle.rules.specs.Sums.{from-mask-cell, from-amount}
+use Rattle.rules.specs.Values.{Carried}
 use Rattle.spread.specs.declared.search.Rule.{Rule}
 use Rattle.spread.specs.declared.search.Rule.the-variants.{FromMaskCell, FromAmount}
 use Rattle.spread.specs.declared.search.Search.{Search}
-use Rattle.spread.specs.declared.first.First.{First}
-use Rattle.spread.specs.Nets.{reads-times}
+use Rattle.spread.specs.Nets.{net-of, carries, reads-times}
 use Rattle.spread.specs.Waiting.{Waiting, Joining, Joined}
 use Rattle.spread.specs.Buffers.{buffers}
-use Rattle.spread.specs.First.{net-on, FromCell, FirstOf}
-use Rattle.spread.specs.Begin.{Lengths, BeganTo, Begins, BeginsFrom, BeganFrom}
-use Rattle.spread.proofs.Firsts.{mask-cell-first, amount-first}
+use Rattle.spread.specs.First.{net-on}
+use Rattle.spread.specs.Begin.{BeganTo, Begins, BeginsFrom, BeganFrom}
 
 -- ---- cells that pass a test
 
-passing-same : (f g : ℕ → Bool) (i k : ℕ) → ((c : ℕ) → i ≤ c → c < i + k → f c ≡ g c) → passing f i k ≡ passing g i k
+passing-same : (f g : ℕ → Bool) → ((c : ℕ) → f c ≡ g c) → (i k : ℕ) → passing f i k ≡ passing g i k
 unfolding passing
-passing-same f g i zero same = refl
-passing-same f g i (suc k) same =
-    rw (same i (omega arith) (omega arith))
-    (ap (λ rest. cond (g i) (i ∷ rest) rest) (passing-same f g (suc i) k (λ c low high. same c (omega arith) (omega arith))))
+passing-same f g same i zero = refl
+passing-same f g same i (suc k) = rw (same i) (ap (λ rest. cond (g i) (i ∷ rest) rest) (passing-same f g same (suc i) k))
 
 passing-none : (test : ℕ → Bool) (i k : ℕ) → ((c : ℕ) → i ≤ c → c < i + k → test c ≡ false) → passing test i k ≡ []
 unfolding passing
@@ -173,13 +171,13 @@ module _
 
 module _
     {search : Search} {targets : List ℕ} {times values distances carried : List Float} {marks queue : List ℕ}
-    (begins : Begins search targets times values distances carried marks queue) {rule : Rule} (is-rule : search .rule ≡ rule) (timed : reads-times rule ≡ true)
+    (begins : Begins search targets times values distances carried marks queue)
   where
     same-grid : count (search .size) ≡ length distances
     same-grid = sym (begins .lengths .distances-length)
 
-    pub begins-from : (origin : ℕ) → BeginsFrom origin times distances marks queue
-    begins-from origin = record {
+    pub begins-from : {rule : Rule} → search .rule ≡ rule → reads-times rule ≡ true → (origin : ℕ) → BeginsFrom origin times distances marks queue
+    begins-from is-rule timed origin = record {
       times-length = begins .inputs .times-length (ap reads-times is-rule ∙ timed) ∙ same-grid;
       marks-length = begins .lengths .marks-length ∙ same-grid;
       queue-length = begins .lengths .queue-length ∙ ap suc same-grid;
@@ -189,15 +187,12 @@ module _
         {origin : ℕ} {cap : Float} {distances′ : List Float} {marks′ queue′ : List ℕ} {ring : Ring}
         (began : BeganFrom origin cap times distances marks queue distances′ marks′ queue′ ring)
       where
-        -- What a cell began with.
-        abbrev begun-with : ℕ → First
-        begun-with c = record { distance = getD distances′ c nan; value = getD carried c nan; starts = eqb c origin && not (nodata (getD times c nan)) }
-
-        pub from-cell-at : (c : ℕ) → c < count (search .size) → FromCell c origin (getD times c nan) cap (begun-with c)
-        from-cell-at c below = record { distance-is = began .distances-are c (rw same-grid at below); starts-is = refl }
-
-        began-as : ((c : ℕ) → c < count (search .size) → FirstOf search targets times values c (begun-with c)) → BeganTo search targets times values (count (search .size)) carried (buffers distances′ carried marks′ queue′ ring)
-        began-as firsts = record {
+        began-as :
+            carries (search .rule) ≡ false
+            → ((obstacles : List ℕ) (c : ℕ) → _≡_ {A = Carried} (cond (eqb c origin) plus-zero cap, nan) (net-on search targets obstacles times values .first c))
+            → ((obstacles : List ℕ) (c : ℕ) → starts-at origin times c ≡ net-on search targets obstacles times values .start c)
+            → BeganTo search targets times values (count (search .size)) carried (buffers distances′ carried marks′ queue′ ring)
+        began-as no-value firsts starts = record {
           begun = record {
             lengths = record {
               distances-length = began .same-distances ∙ begins .lengths .distances-length;
@@ -206,20 +201,23 @@ module _
               queue-length = began .same-queue ∙ begins .lengths .queue-length;
             };
             waits = subst (λ k. Waiting k marks′ queue′ ring) (sym same-grid) (began .waits);
-            labels = λ obstacles c below. firsts c below .label obstacles;
+            labels = λ obstacles c below. rw no-value (ap (λ d. (d, nan)) (began .distances-are c (rw same-grid at below)) ∙ firsts obstacles c);
             waiting = λ obstacles.
                 began .waiting
-                ∙ ap (passing (λ c. eqb c origin && not (nodata (getD times c nan))) 0) (sym same-grid)
-                ∙ passing-same (λ c. eqb c origin && not (nodata (getD times c nan))) (net-on search targets obstacles times values .start) 0 (count (search .size)) (λ c low high. firsts c (omega arith) .starts obstacles);
+                ∙ ap (passing (starts-at origin times) 0) (sym same-grid)
+                ∙ passing-same (starts-at origin times) (net-on search targets obstacles times values .start) (starts obstacles) 0 (count (search .size));
           };
-          kept = λ no-value. refl;
+          kept = λ none. refl;
         }
 
         pub began-mask-cell : search .rule ≡ FromMaskCell origin → cap ≡ infinity → BeganTo search targets times values (count (search .size)) carried (buffers distances′ carried marks′ queue′ ring)
-        began-mask-cell from capped = began-as (λ c below. mask-cell-first search targets times values c from capped (from-cell-at c below))
+        unfolding net-of from-mask-cell
+        began-mask-cell from capped =
+            began-as (ap carries from) (λ obstacles c. rw from (ap (λ most. (cond (eqb c origin) plus-zero most, nan)) capped)) (λ obstacles c. rw from refl)
 
         pub began-amount :
             search .rule ≡ FromAmount origin → cap ≡ add binary32 (search .limit) one
             → BeganTo search targets times values (count (search .size)) carried (buffers distances′ carried marks′ queue′ ring)
+        unfolding net-of from-amount
         began-amount from capped =
-            began-as (λ c below. amount-first search targets times values c from (subst (λ k. FromCell c origin (getD times c nan) k (begun-with c)) capped (from-cell-at c below)))
+            began-as (ap carries from) (λ obstacles c. rw from (ap (λ most. (cond (eqb c origin) plus-zero most, nan)) capped)) (λ obstacles c. rw from refl)

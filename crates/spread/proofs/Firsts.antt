@@ -8,12 +8,12 @@ use native.Mathlib.Omega.{arith}
 use borrow.Author.Tests.{eq-eqb, ne-eqb}
 use lib.Dec.{T, eqb, le→leb}
 use lib.IntN.{pos}
-use lib.Ieee.{Float, nan, binary32, inFloat, ofInt, add}
-use lib.ListN.{length, getD}
+use lib.Ieee.{Float, nan, binary32, inFloat, ofInt}
+use lib.ListN.{getD}
 use mir.Syntax.{w32, w64}
 use mir.Val.{Fits}
 use Rattle.binary32.specs.Nodata.{nodata}
-use Rattle.binary32.specs.Numbers.{plus-zero, one}
+use Rattle.binary32.specs.Numbers.{plus-zero}
 use Rattle.cells.proofs.Bounds.{bounded}
 use Rattle.rules.specs.declared.BarrierDiagonals.{BarrierDiagonals}
 use Rattle.rules.specs.declared.Size.{Size}
@@ -21,13 +21,11 @@ use Rattle.rules.specs.Sizes.{in-bounds, count}
 use Rattle.rules.specs.Numbers.{infinity, nodata-byte, target-byte, whole}
 use Rattle.rules.specs.Distances.{plain, with-obstacles, travel}
 use Rattle.rules.specs.Values.{Carried, closest, closest-by-time}
-use Rattle.rules.specs.Sums.{from-mask-cell, from-amount}
-use Rattle.spread.specs.declared.search.Rule.{Rule}
-use Rattle.spread.specs.declared.search.Rule.the-variants.{Plain, Obstacles, HalfSum, Closest, ByTime, FromMaskCell, FromAmount}
+use Rattle.spread.specs.declared.search.Rule.the-variants.{Plain, Obstacles, HalfSum, Closest, ByTime}
 use Rattle.spread.specs.declared.search.Search.{Search}
 use Rattle.spread.specs.declared.first.First.{First}
-use Rattle.spread.specs.Nets.{net-of, carries, reads-targets, reads-times}
-use Rattle.spread.specs.First.{NeverEntered, FromStart, FromTarget, FromPlainTarget, FromTravelTarget, FromValuedTarget, FromCell, CellInputs, FirstOf}
+use Rattle.spread.specs.Nets.{net-of}
+use Rattle.spread.specs.First.{NeverEntered, FromStart, FromTarget, FromPlainTarget, FromTravelTarget, FromValuedTarget, FirstOf}
 
 -- ---- numbers
 
@@ -79,10 +77,6 @@ pair-as : (b : Bool) (value cap : Float) {d x : Float} → d ≡ cond b plus-zer
 pair-as true value cap p q = pair-of p q
 pair-as false value cap p q = pair-of p q
 
-cond-pair : (b : Bool) {value value′ cap cap′ : Float} → value ≡ value′ → cap ≡ cap′ → _≡_ {A = Carried} (cond b (plus-zero, value) (cap, plus-zero)) (cond b (plus-zero, value′) (cap′, plus-zero))
-cond-pair true p q = pair-of refl p
-cond-pair false p q = pair-of q refl
-
 -- What a test says may stand for the test.
 pub start-as : {said starts : Bool} {value cap : Float} {first : First} → said ≡ starts → FromStart said value cap first → FromStart starts value cap first
 start-as {value = value} {cap} {first} same = subst (λ b. FromStart b value cap first) same
@@ -119,15 +113,6 @@ module _ {byte : ℕ} {cap : Float} {first : First} where
         let told : nodata value ≡ false = sym says ∙ some in
         record { label-is = rw told (pair-as (not (eqb byte 0)) value cap (from .distance-is) (from .value-is)); starts-is = rw told (from .starts-is) }
 
--- ---- one cell that starts
-
-module _ {cell origin : ℕ} {time cap : Float} where
-  pub from-origin : {value : Float} {answer : Bool} → answer ≡ nodata time → cell ≡ origin → FromCell cell origin time cap (record { distance = plus-zero; value = value; starts = not answer })
-  from-origin says here = record { distance-is = rw (eq-eqb cell origin here); starts-is = rw (eq-eqb cell origin here) (ap not says) }
-
-  pub from-elsewhere : {value : Float} {first : First} → (cell ≡ origin → ⊥) → FromStart false value cap first → FromCell cell origin time cap first
-  from-elsewhere other from = record { distance-is = rw (ne-eqb cell origin other) (from .distance-is); starts-is = rw (ne-eqb cell origin other) (from .starts-is) }
-
 -- ---- the rules
 
 module _ (search : Search) (targets : List ℕ) (times values : List Float) (cell : ℕ) {first : First} where
@@ -150,11 +135,13 @@ module _ (search : Search) (targets : List ℕ) (times values : List Float) (cel
   half-sum-first rule from = record { label = λ obstacles. rw rule (ap (λ d. (d, nan)) (from .distance-is)); starts = λ obstacles. rw rule (from .starts-is) }
 
   pub closest-first :
-      {value cap : Float} → search .rule ≡ Closest → value ≡ getD values cell nan → cap ≡ whole (suc (count (search .size)))
-      → FromTarget (getD targets cell 0) value cap first → FirstOf search targets times values cell first
+      {cap : Float} → search .rule ≡ Closest → cap ≡ whole (suc (count (search .size))) → FromTarget (getD targets cell 0) (getD values cell nan) cap first
+      → FirstOf search targets times values cell first
   unfolding net-of closest
-  closest-first {value} {cap} rule valued capped from = record {
-    label = λ obstacles. rw rule (pair-as (target-byte (getD targets cell 0)) value cap (from .distance-is) (from .value-is) ∙ cond-pair (target-byte (getD targets cell 0)) valued capped);
+  closest-first {cap} rule capped from = record {
+    label = λ obstacles. rw rule (
+        pair-as (target-byte (getD targets cell 0)) (getD values cell nan) cap (from .distance-is) (from .value-is)
+        ∙ ap (λ most. cond (target-byte (getD targets cell 0)) (plus-zero, getD values cell nan) (most, plus-zero)) capped);
     starts = λ obstacles. rw rule (from .starts-is);
   }
 
@@ -162,29 +149,3 @@ module _ (search : Search) (targets : List ℕ) (times values : List Float) (cel
       search .rule ≡ ByTime → FromValuedTarget (getD targets cell 0) (getD values cell nan) (search .limit) first → FirstOf search targets times values cell first
   unfolding net-of closest-by-time
   by-time-first rule from = record { label = λ obstacles. rw rule (from .label-is); starts = λ obstacles. rw rule (from .starts-is) }
-
-  pub mask-cell-first :
-      {origin : ℕ} {cap : Float} → search .rule ≡ FromMaskCell origin → cap ≡ infinity → FromCell cell origin (getD times cell nan) cap first
-      → FirstOf search targets times values cell first
-  unfolding net-of from-mask-cell
-  mask-cell-first {origin} rule capped from = record {
-    label = λ obstacles. rw rule (ap (λ d. (d, nan)) (from .distance-is ∙ ap (cond (eqb cell origin) plus-zero) capped));
-    starts = λ obstacles. rw rule (from .starts-is);
-  }
-
-  pub amount-first :
-      {origin : ℕ} → search .rule ≡ FromAmount origin → FromCell cell origin (getD times cell nan) (add binary32 (search .limit) one) first
-      → FirstOf search targets times values cell first
-  unfolding net-of from-amount
-  amount-first rule from = record { label = λ obstacles. rw rule (ap (λ d. (d, nan)) (from .distance-is)); starts = λ obstacles. rw rule (from .starts-is) }
-
--- The cell of a grid that the rule reads can be read.
-module _ {search : Search} {targets : List ℕ} {times values : List Float} {cell : ℕ} (given : CellInputs search targets times values cell) {rule : Rule} (is-rule : search .rule ≡ rule) where
-  pub target-read : reads-targets rule ≡ true → cell < length targets
-  target-read reads = rw (given .inputs .targets-length (ap reads-targets is-rule ∙ reads)) (given .inside)
-
-  pub time-read : reads-times rule ≡ true → cell < length times
-  time-read reads = rw (given .inputs .times-length (ap reads-times is-rule ∙ reads)) (given .inside)
-
-  pub value-read : carries rule ≡ true → cell < length values
-  value-read reads = rw (given .inputs .values-length (ap carries is-rule ∙ reads)) (given .inside)

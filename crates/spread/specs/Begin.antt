@@ -1,23 +1,24 @@
 -- How a search begins: what each cell gets, in row order. Definitions only.
-use mathlib.Core.Bool.{true, false, not, cond, _&&_}
+use mathlib.Core.Bool.{Bool, true, false, not, cond, _&&_}
 use mathlib.Core.List.{List}
 use mathlib.Core.Path.{_≡_}
 use Prim.Native.Nat.{ℕ, suc, _<_}
-use lib.Dec.{eqb}
+use lib.Dec.{T, eqb}
 use lib.Ieee.{Float, nan}
-use lib.ListN.{length, getD}
+use lib.ListN.{length, getD, set}
 use Rattle.binary32.specs.Nodata.{nodata}
 use Rattle.binary32.specs.Numbers.{plus-zero}
 use Rattle.cells.specs.Ring.{contents}
 use Rattle.cells.specs.declared.ring.Ring.{Ring}
 use Rattle.fifo.specs.Machine.{passing}
-use Rattle.rules.specs.Sizes.{count}
+use Rattle.rules.specs.Sizes.{in-bounds, count}
 use Rattle.spread.specs.declared.search.Search.{Search}
+use Rattle.spread.specs.declared.first.First.{First}
 use Rattle.spread.specs.Nets.{carries}
 use Rattle.spread.specs.Steps.{labelled}
-use Rattle.spread.specs.Waiting.{Waiting}
+use Rattle.spread.specs.Waiting.{Waiting, Beginning, Began}
 use Rattle.spread.specs.Buffers.{Buffers}
-use Rattle.spread.specs.First.{net-on, Inputs}
+use Rattle.spread.specs.First.{net-on, Inputs, FirstOf, Reads, FirstFrom}
 
 -- The buffers have their lengths, whatever they hold.
 pub record Lengths (search : Search) (distances carried : List Float) (marks queue : List ℕ) : Type 0 where
@@ -35,18 +36,38 @@ pub record Begun (search : Search) (targets : List ℕ) (times values : List Flo
       → labelled (search .rule) (getD (b .distances) c nan) (getD (b .carried) c nan) ≡ net-on search targets obstacles times values .first c
   pub waiting : (obstacles : List ℕ) → contents (b .queue) (b .ring) ≡ passing (net-on search targets obstacles times values .start) 0 i
 
-pub record BeginsCell (search : Search) (targets : List ℕ) (times values : List Float) (cell : ℕ) (b : Buffers) : Type 0 where
-  pub inputs : Inputs search targets times values
-  pub inside : cell < count (search .size)
-  pub begun : Begun search targets times values cell b
+-- A cell is to begin: it can be read and stored to, and those before it have begun.
+pub record BeginsCell (from : ℕ) (carrying : Bool) (targets : List ℕ) (times values : List Float) (cell : ℕ) (b : Buffers) : Type 0 where
+  pub reads : Reads from targets times values cell
+  pub distance-inside : cell < length (b .distances)
+  pub value-inside : carrying ≡ true → cell < length (b .carried)
+  pub waits : Beginning cell (b .marks) (b .queue) (b .ring)
 
+-- It has its first label, and waits if it starts.
+pub record BeganCell (from : ℕ) (carrying : Bool) (cap : Float) (targets : List ℕ) (times values : List Float) (cell : ℕ) (before after : Buffers) : Type 0 where
+  pub first : First
+  pub is-first : FirstFrom from cap targets times values cell first
+  pub distances-are : after .distances ≡ set (before .distances) cell (first .distance)
+  pub carried-is : after .carried ≡ cond carrying (set (before .carried) cell (first .value)) (before .carried)
+  pub began : Began cell (first .starts) (before .marks) (before .queue) (before .ring) (after .marks) (after .queue) (after .ring)
+
+-- The first i cells have begun, and where no value goes along, its buffer is as it was.
 pub record BeganTo (search : Search) (targets : List ℕ) (times values : List Float) (i : ℕ) (carried : List Float) (after : Buffers) : Type 0 where
   pub begun : Begun search targets times values i after
   pub kept : carries (search .rule) ≡ false → after .carried ≡ carried
 
+-- Every cell is to begin.
 pub record Begins (search : Search) (targets : List ℕ) (times values distances carried : List Float) (marks queue : List ℕ) : Type 0 where
   pub inputs : Inputs search targets times values
   pub lengths : Lengths search distances carried marks queue
+
+-- The same where what a cell begins with, from targets of this number and below this cap, is the rule's.
+pub record BeginsEach (search : Search) (from : ℕ) (carrying : Bool) (cap : Float) (targets : List ℕ) (times values distances carried : List Float) (marks queue : List ℕ) : Type 0 where
+  pub bounds : T (in-bounds (search .size))
+  pub lengths : Lengths search distances carried marks queue
+  pub carrying-is : carrying ≡ carries (search .rule)
+  pub reads : (c : ℕ) → c < count (search .size) → Reads from targets times values c
+  pub firsts : (c : ℕ) (first : First) → FirstFrom from cap targets times values c first → FirstOf search targets times values c first
 
 -- Every cell is to begin from one.
 pub record BeginsFrom (origin : ℕ) (times distances : List Float) (marks queue : List ℕ) : Type 0 where

@@ -2,10 +2,10 @@
 use mathlib.Core.Bool.{Bool, true, false, not, cond, _&&_}
 use mathlib.Core.List.{List}
 use mathlib.Core.Path.{_≡_}
-use Prim.Native.Nat.{ℕ, _<_}
+use Prim.Native.Nat.{ℕ, _≤_, _<_}
 use lib.Dec.{T, eqb}
 use lib.Ieee.{Float, nan}
-use lib.ListN.{length}
+use lib.ListN.{length, getD}
 use Rattle.binary32.specs.Nodata.{nodata}
 use Rattle.binary32.specs.Numbers.{plus-zero}
 use Rattle.fifo.specs.Machine.{Net}
@@ -26,10 +26,6 @@ pub record Inputs (search : Search) (targets : List ℕ) (times values : List Fl
   pub targets-length : reads-targets (search .rule) ≡ true → length targets ≡ count (search .size)
   pub times-length : reads-times (search .rule) ≡ true → length times ≡ count (search .size)
   pub values-length : carries (search .rule) ≡ true → length values ≡ count (search .size)
-
-pub record CellInputs (search : Search) (targets : List ℕ) (times values : List Float) (cell : ℕ) : Type 0 where
-  pub inputs : Inputs search targets times values
-  pub inside : cell < count (search .size)
 
 -- What is never entered holds NaN, and does not start.
 pub record NeverEntered (first : First) : Type 0 where
@@ -64,12 +60,26 @@ pub record FromValuedTarget (byte : ℕ) (value cap : Float) (first : First) : T
       (cond (not (nodata value)) (cond (not (nodata value) && not (eqb byte 0)) (plus-zero, value) (cap, plus-zero)) (nan, nan))
   pub starts-is : first .starts ≡ not (nodata value) && not (eqb byte 0)
 
--- One cell is at +0, and starts if its time has data. Any other holds the cap.
-pub record FromCell (cell origin : ℕ) (time cap : Float) (first : First) : Type 0 where
-  pub distance-is : first .distance ≡ cond (eqb cell origin) plus-zero cap
-  pub starts-is : first .starts ≡ eqb cell origin && not (nodata time)
-
 -- This is the cell's first label, and whether it starts. Obstacles have no part in either.
 pub record FirstOf (search : Search) (targets : List ℕ) (times values : List Float) (cell : ℕ) (first : First) : Type 0 where
   pub label : (obstacles : List ℕ) → labelled (search .rule) (first .distance) (first .value) ≡ net-on search targets obstacles times values .first cell
   pub starts : (obstacles : List ℕ) → first .starts ≡ net-on search targets obstacles times values .start cell
+
+-- ---- from which targets a search begins, by number, which the loop has as a constant
+
+-- A cell can be read in the grids that are looked at.
+pub record Reads (from : ℕ) (targets : List ℕ) (times values : List Float) (cell : ℕ) : Type 0 where
+  pub target : cell < length targets
+  pub time : from ≡ 2 → cell < length times
+  pub value : 3 ≤ from → cell < length values
+
+-- What the cell begins with: as in search 1, in 2, in 3, in 4, and in 5 and 6.
+abbrev pub FirstFrom : ℕ → Float → List ℕ → List Float → List Float → ℕ → First → Type 0
+FirstFrom from cap targets times values cell first =
+    let byte = getD targets cell 0 in
+    let time = getD times cell nan in
+    let value = getD values cell nan in
+    cond (eqb from 0) (FromPlainTarget byte cap first)
+    (cond (eqb from 1) (FromTarget byte plus-zero cap first)
+    (cond (eqb from 2) (FromTravelTarget byte time cap first)
+    (cond (eqb from 3) (FromTarget byte value cap first) (FromValuedTarget byte value cap first))))

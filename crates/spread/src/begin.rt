@@ -1,6 +1,11 @@
 // How a search begins: each cell gets its first label and its mark, and the starting cells wait in row order.
+use crate::first::FROM_CLOSEST_TARGETS;
+use crate::first::FROM_PLAIN_TARGETS;
+use crate::first::FROM_TARGETS;
+use crate::first::FROM_TRAVEL_TARGETS;
+use crate::first::FROM_VALUED_TARGETS;
+use crate::first::above_all;
 use crate::first::first_label;
-use crate::relax::carries;
 use crate::relax::carry;
 use crate::search::Rule;
 use crate::search::Search;
@@ -12,14 +17,15 @@ use calls::fill_bytes;
 use calls::fill_floats;
 use cells::Ring;
 use cells::cell_count;
-ghost use Prim.Native.Nat.{_+_};
 ghost use Rattle.rules.specs.Sizes.{count};
-ghost use Rattle.spread.specs.Begin.{BeginsCell, BeganTo, Begins, BeginsFrom, BeganFrom};
+ghost use Rattle.spread.specs.Begin.{BeginsCell, BeganCell, BeganTo, Begins, BeginsEach, BeginsFrom, BeganFrom};
 ghost use Rattle.spread.specs.Buffers.{buffers};
 
 // One cell begins.
 fn begin_cell(
-    search: Search,
+    from: u8,
+    carrying: bool,
+    cap: f32,
     targets: &[u8],
     times: &[f32],
     values: &[f32],
@@ -30,21 +36,24 @@ fn begin_cell(
     queue: &mut [u32],
     ring: Ring,
 ) -> Ring
-    requires { ⌜ BeginsCell search (now targets) (now times) (now values) cell (buffers (now distances) (now carried) (now marks) (now queue) ring) ⌝ }
-    ensures { λ r. ⌜ BeganTo search (now (targets .entry)) (now (times .entry)) (now (values .entry)) (cell + 1) (now (carried .entry))
+    requires { ⌜ BeginsCell from carrying (now targets) (now times) (now values) cell (buffers (now distances) (now carried) (now marks) (now queue) ring) ⌝ }
+    ensures { λ r. ⌜ BeganCell from carrying cap (now (targets .entry)) (now (times .entry)) (now (values .entry)) cell
+        (buffers (now (distances .entry)) (now (carried .entry)) (now (marks .entry)) (now (queue .entry)) ring)
         (buffers (now (distances .exit)) (now (carried .exit)) (now (marks .exit)) (now (queue .exit)) r) ⌝ }
 {
     let at = cell as usize;
-    let label = first_label(search, targets, times, values, cell);
+    let label = first_label(from, cap, targets, times, values, cell);
     distances[at] = label.distance;
-    let rule = search.rule;
-    carry(carries(rule), cell, label.value, carried);
+    carry(carrying, cell, label.value, carried);
     begin_waiting(cell, label.starts, marks, queue, ring)
 }
 
 // Every cell begins, in row order.
 fn begin_each(
     search: Search,
+    from: u8,
+    carrying: bool,
+    cap: f32,
     targets: &[u8],
     times: &[f32],
     values: &[f32],
@@ -53,7 +62,7 @@ fn begin_each(
     marks: &mut [u8],
     queue: &mut [u32],
 ) -> Ring
-    requires { ⌜ Begins search (now targets) (now times) (now values) (now distances) (now carried) (now marks) (now queue) ⌝ }
+    requires { ⌜ BeginsEach search from carrying cap (now targets) (now times) (now values) (now distances) (now carried) (now marks) (now queue) ⌝ }
     ensures { λ r. ⌜ BeganTo search (now (targets .entry)) (now (times .entry)) (now (values .entry)) (count (search .size)) (now (carried .entry))
         (buffers (now (distances .exit)) (now (carried .exit)) (now (marks .exit)) (now (queue .exit)) r) ⌝ }
 {
@@ -62,7 +71,9 @@ fn begin_each(
     let mut cell: u32 = 0;
     while cell < end {
         ring = begin_cell(
-            search,
+            from,
+            carrying,
+            cap,
             targets,
             times,
             values,
@@ -104,7 +115,8 @@ fn begin_from(
     ring
 }
 
-// Every cell begins. A search from one cell begins by filling, the others cell by cell.
+// Every cell begins. The rule is matched here, once, so that in each arm the loop has constants for what it looks at.
+// A search from one cell begins by filling.
 pub fn begin_cells(
     search: Search,
     targets: &[u8],
@@ -120,20 +132,13 @@ pub fn begin_cells(
         (buffers (now (distances .exit)) (now (carried .exit)) (now (marks .exit)) (now (queue .exit)) r) ⌝ }
 {
     let rule = search.rule;
+    let limit = search.limit;
     match rule {
-        Rule::FromMaskCell(origin) => {
-            begin_from(origin, infinity(), times, distances, marks, queue)
-        }
-        Rule::FromAmount(origin) => begin_from(
-            origin,
-            search.limit + 1.0,
-            times,
-            distances,
-            marks,
-            queue,
-        ),
-        _ => begin_each(
+        Rule::Plain => begin_each(
             search,
+            FROM_PLAIN_TARGETS,
+            false,
+            limit,
             targets,
             times,
             values,
@@ -142,5 +147,61 @@ pub fn begin_cells(
             marks,
             queue,
         ),
+        Rule::Obstacles(_) => begin_each(
+            search,
+            FROM_TARGETS,
+            false,
+            infinity(),
+            targets,
+            times,
+            values,
+            distances,
+            carried,
+            marks,
+            queue,
+        ),
+        Rule::HalfSum => begin_each(
+            search,
+            FROM_TRAVEL_TARGETS,
+            false,
+            limit,
+            targets,
+            times,
+            values,
+            distances,
+            carried,
+            marks,
+            queue,
+        ),
+        Rule::Closest => begin_each(
+            search,
+            FROM_CLOSEST_TARGETS,
+            true,
+            above_all(search.size),
+            targets,
+            times,
+            values,
+            distances,
+            carried,
+            marks,
+            queue,
+        ),
+        Rule::ByTime => begin_each(
+            search,
+            FROM_VALUED_TARGETS,
+            true,
+            limit,
+            targets,
+            times,
+            values,
+            distances,
+            carried,
+            marks,
+            queue,
+        ),
+        Rule::FromMaskCell(origin) => {
+            begin_from(origin, infinity(), times, distances, marks, queue)
+        }
+        Rule::FromAmount(origin) => begin_from(origin, limit + 1.0, times, distances, marks, queue),
     }
 }

@@ -1,7 +1,4 @@
-// What a cell begins with, by each rule.
-use crate::search::Rule;
-use crate::search::Search;
-use binary32::infinity;
+// What a cell begins with, in a search from targets.
 use binary32::is_nodata;
 use binary32::nan;
 use binary32::one_nan;
@@ -12,7 +9,7 @@ ghost use lib.Dec.{T};
 ghost use Prim.Native.Nat.{suc};
 ghost use Rattle.rules.specs.Sizes.{in-bounds, count};
 ghost use Rattle.rules.specs.Numbers as number;
-ghost use Rattle.spread.specs.First.{NeverEntered, FromStart, FromTarget, FromPlainTarget, FromTravelTarget, FromValuedTarget, FromCell, CellInputs, FirstOf};
+ghost use Rattle.spread.specs.First.{NeverEntered, FromStart, FromTarget, FromPlainTarget, FromTravelTarget, FromValuedTarget, Reads, FirstFrom};
 
 // The target byte that stands for nodata.
 pub const NODATA_BYTE: u8 = 255;
@@ -97,22 +94,8 @@ fn from_valued_target(byte: u8, value: f32, cap: f32) -> First
     from_start(byte != 0, value, cap)
 }
 
-// One cell is at 0, and starts if its time has data. Any other waits for a distance below the cap.
-fn from_cell(cell: u32, origin: u32, time: f32, cap: f32) -> First
-    ensures { λ r. ⌜ FromCell cell origin time cap r ⌝ }
-{
-    if cell == origin {
-        return First {
-            distance: 0.0,
-            value: 0.0,
-            starts: !is_nodata(time),
-        };
-    }
-    from_start(false, 0.0, cap)
-}
-
 // A distance above any that a grid of this size has, as a float: one more than its number of cells.
-fn above_all(size: Size) -> f32
+pub fn above_all(size: Size) -> f32
     requires { ⌜ T (in-bounds size) ⌝ }
     ensures { λ r. ⌜ r ≡ number.whole (suc (count size)) ⌝ }
 {
@@ -120,26 +103,43 @@ fn above_all(size: Size) -> f32
     cells as f32
 }
 
-// What a cell begins with, by the rule.
+// From which targets a search begins, by number: those of search 1, of 2, of 3, of 4, and of 5 and 6. The loop has
+// the number as a constant.
+pub const FROM_PLAIN_TARGETS: u8 = 0;
+
+pub const FROM_TARGETS: u8 = 1;
+
+pub const FROM_TRAVEL_TARGETS: u8 = 2;
+
+pub const FROM_CLOSEST_TARGETS: u8 = 3;
+
+pub const FROM_VALUED_TARGETS: u8 = 4;
+
+// What a cell begins with.
 pub fn first_label(
-    search: Search,
+    from: u8,
+    cap: f32,
     targets: &[u8],
     times: &[f32],
     values: &[f32],
     cell: u32,
 ) -> First
-    requires { ⌜ CellInputs search (now targets) (now times) (now values) cell ⌝ }
-    ensures { λ r. ⌜ FirstOf search (now (targets .entry)) (now (times .entry)) (now (values .entry)) cell r ⌝ }
+    requires { ⌜ Reads from (now targets) (now times) (now values) cell ⌝ }
+    ensures { λ r. ⌜ FirstFrom from cap (now (targets .entry)) (now (times .entry)) (now (values .entry)) cell r ⌝ }
 {
     let at = cell as usize;
-    let rule = search.rule;
-    match rule {
-        Rule::Plain => from_plain_target(targets[at], search.limit),
-        Rule::Obstacles(_) => from_target(targets[at], 0.0, infinity()),
-        Rule::HalfSum => from_travel_target(targets[at], times[at], search.limit),
-        Rule::Closest => from_target(targets[at], one_nan(values[at]), above_all(search.size)),
-        Rule::ByTime => from_valued_target(targets[at], values[at], search.limit),
-        Rule::FromMaskCell(origin) => from_cell(cell, origin, times[at], infinity()),
-        Rule::FromAmount(origin) => from_cell(cell, origin, times[at], search.limit + 1.0),
+    let byte = targets[at];
+    if from == FROM_PLAIN_TARGETS {
+        return from_plain_target(byte, cap);
     }
+    if from == FROM_TARGETS {
+        return from_target(byte, 0.0, cap);
+    }
+    if from == FROM_TRAVEL_TARGETS {
+        return from_travel_target(byte, times[at], cap);
+    }
+    if from == FROM_CLOSEST_TARGETS {
+        return from_target(byte, one_nan(values[at]), cap);
+    }
+    from_valued_target(byte, values[at], cap)
 }
