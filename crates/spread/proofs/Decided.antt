@@ -1,7 +1,7 @@
 -- What the promises of this crate decide: two outcomes that keep one promise coincide, in the labels, the waiting cells and what is told of them.
 -- Not decided, because the promises do not speak of it: in which slots of the queue the waiting cells stand, what the other slots hold, and by which
 -- mark a cell that does not wait is marked. After `spread` nothing is said of marks and queue but their lengths: the calls above zero both. Assumes nothing.
-use mathlib.Core.Bool.{true, false, cond}
+use mathlib.Core.Bool.{false}
 use mathlib.Core.List.{List, [], _∷_, map}
 use mathlib.Core.Logic.{⊎-elim}
 use mathlib.Core.Path.{_≡_, refl, sym, ap, _∙_}
@@ -12,9 +12,8 @@ use lib.Ieee.{Float, nan}
 use lib.ListN.{length, getD}
 use Rattle.cells.specs.Ring.{contents}
 use Rattle.cells.proofs.Decided.{SameWaiting}
-use Rattle.fifo.specs.Machine.{State, table}
+use Rattle.fifo.specs.Machine.{State}
 use Rattle.fifo.proofs.Lists.{tested}
-use Rattle.fifo.proofs.Simulation.{map-table}
 use Rattle.rules.specs.Sizes.{count}
 use Rattle.rules.specs.Values.{Carried}
 use Rattle.rules.proofs.Decided.{equation-decides}
@@ -30,7 +29,7 @@ use Rattle.spread.specs.Loop.{Taking, TookCell}
 use Rattle.spread.specs.Promise.{Spread}
 use Rattle.spread.proofs.Rules.{follows}
 use Rattle.spread.proofs.Beginning.{begun-good, begun-initial}
-use Rattle.spread.proofs.Results.{table-reads, distances-are, values-are}
+use Rattle.spread.proofs.Results.{distances-read, values-read, distances-are, values-are}
 
 -- ---- `spread`
 
@@ -58,23 +57,6 @@ spread-decides {search} p q = record {
 
 -- ---- buffers that hold one state
 
-module _ {search : Search} {b : Buffers} (good : Good search b) where
-  -- The distances, and the values where they go along, are read off the labels.
-  distances-read : b .distances ≡ map (λ l. l .0) (labels-of search (b .distances) (b .carried))
-  unfolding labels-of
-  distances-read = sym (
-      map-table (λ l. l .0) (λ c. (getD (b .distances) c nan, cond (carries (search .rule)) (getD (b .carried) c nan) nan)) (λ c. getD (b .distances) c nan) (λ c. refl) 0 (count (search .size))
-      ∙ ap (table (λ c. getD (b .distances) c nan) 0) (sym (good .distances-length))
-      ∙ table-reads nan (b .distances))
-
-  carried-read : carries (search .rule) ≡ true → b .carried ≡ map (λ l. l .1) (labels-of search (b .distances) (b .carried))
-  unfolding labels-of
-  carried-read carrying = sym (
-      map-table (λ l. l .1) (λ c. (getD (b .distances) c nan, cond (carries (search .rule)) (getD (b .carried) c nan) nan)) (λ c. getD (b .carried) c nan)
-      (λ c. ap (λ test. cond test (getD (b .carried) c nan) nan) carrying) 0 (count (search .size))
-      ∙ ap (table (λ c. getD (b .carried) c nan) 0) (sym (good .carried-length carrying))
-      ∙ table-reads nan (b .carried))
-
 -- The buffers hold the same distances and values, the same cells wait in the same order, and the same cells are marked as waiting.
 pub record SameState (search : Search) (a b : Buffers) : Type 0 where
   pub distances : a .distances ≡ b .distances
@@ -91,8 +73,17 @@ held-decides {search} {a} {b} {t} good-a good-b holds-a holds-b kept =
     let labels = sym (holds-a .labels) ∙ holds-b .labels in
     let waiting = sym (holds-a .waiting) ∙ holds-b .waiting in
     record {
-      distances = distances-read good-a ∙ ap (map (λ l. l .0)) labels ∙ sym (distances-read good-b);
-      carried = ⊎-elim (λ carrying. carried-read good-a carrying ∙ ap (map (λ l. l .1)) labels ∙ sym (carried-read good-b carrying)) kept (tested (carries (search .rule)));
+      distances =
+          distances-read search (a .distances) (a .carried) (good-a .distances-length)
+          ∙ ap (map (λ l. l .0)) labels
+          ∙ sym (distances-read search (b .distances) (b .carried) (good-b .distances-length));
+      carried =
+          ⊎-elim
+          (λ carrying.
+          values-read search (a .distances) (a .carried) carrying (good-a .carried-length carrying)
+          ∙ ap (map (λ l. l .1)) labels
+          ∙ sym (values-read search (b .distances) (b .carried) carrying (good-b .carried-length carrying)))
+          kept (tested (carries (search .rule)));
       waiting = record {
         waiting = waiting;
         slots = equation-decides (good-a .waits .slots ∙ ap suc (good-a .marks-length)) (good-b .waits .slots ∙ ap suc (good-b .marks-length));

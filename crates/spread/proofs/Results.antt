@@ -28,28 +28,34 @@ table-later f i zero = refl
 table-later f i (suc k) = ap (λ l. f (suc i) ∷ l) (table-later f (suc i) k)
 
 -- The table of a list's elements is the list.
-pub table-reads : {A : Type 0} (d : A) (xs : List A) → table (λ c. getD xs c d) 0 (length xs) ≡ xs
+table-reads : {A : Type 0} (d : A) (xs : List A) → table (λ c. getD xs c d) 0 (length xs) ≡ xs
 unfolding table
 table-reads d [] = refl
 table-reads d (x ∷ xs) = ap (λ l. x ∷ l) (table-later (λ c. getD (x ∷ xs) c d) 0 (length xs) ∙ table-reads d xs)
+
+-- Buffers that have their lengths are read off their labels: the distances, and the values where they go along.
+module _ (search : Search) (distances carried : List Float) where
+  pub distances-read : length distances ≡ count (search .size) → distances ≡ map (λ l. l .0) (labels-of search distances carried)
+  unfolding labels-of
+  distances-read long = sym (
+      map-table (λ l. l .0) (λ c. (getD distances c nan, cond (carries (search .rule)) (getD carried c nan) nan)) (λ c. getD distances c nan) (λ c. refl) 0 (count (search .size))
+      ∙ ap (table (λ c. getD distances c nan) 0) (sym long)
+      ∙ table-reads nan distances)
+
+  pub values-read : carries (search .rule) ≡ true → length carried ≡ count (search .size) → carried ≡ map (λ l. l .1) (labels-of search distances carried)
+  unfolding labels-of
+  values-read carrying long = sym (
+      map-table (λ l. l .1) (λ c. (getD distances c nan, cond (carries (search .rule)) (getD carried c nan) nan)) (λ c. getD carried c nan)
+      (λ c. ap (λ b. cond b (getD carried c nan) nan) carrying) 0 (count (search .size))
+      ∙ ap (table (λ c. getD carried c nan) 0) (sym long)
+      ∙ table-reads nan carried)
 
 module _
     {search : Search} {grids : Grids} {carried distances′ carried′ : List Float} {marks′ queue′ : List ℕ} {r : ℕ}
     (spread : Spread search grids carried distances′ carried′ marks′ queue′ r)
   where
     pub distances-are : distances′ ≡ map (λ l. l .0) (finish (net-of search grids) .labels)
-    unfolding labels-of
-    distances-are = sym (
-        ap (map (λ l. l .0)) (sym (spread .labels))
-        ∙ map-table (λ l. l .0) (λ c. (getD distances′ c nan, cond (carries (search .rule)) (getD carried′ c nan) nan)) (λ c. getD distances′ c nan) (λ c. refl) 0 (count (search .size))
-        ∙ ap (table (λ c. getD distances′ c nan) 0) (sym (spread .lengths .distances-length))
-        ∙ table-reads nan distances′)
+    distances-are = distances-read search distances′ carried′ (spread .lengths .distances-length) ∙ ap (map (λ l. l .0)) (spread .labels)
 
     pub values-are : carries (search .rule) ≡ true → carried′ ≡ map (λ l. l .1) (finish (net-of search grids) .labels)
-    unfolding labels-of
-    values-are carrying = sym (
-        ap (map (λ l. l .1)) (sym (spread .labels))
-        ∙ map-table (λ l. l .1) (λ c. (getD distances′ c nan, cond (carries (search .rule)) (getD carried′ c nan) nan)) (λ c. getD carried′ c nan)
-        (λ c. ap (λ b. cond b (getD carried′ c nan) nan) carrying) 0 (count (search .size))
-        ∙ ap (table (λ c. getD carried′ c nan) 0) (sym (spread .lengths .carried-length carrying))
-        ∙ table-reads nan carried′)
+    values-are carrying = values-read search distances′ carried′ carrying (spread .lengths .carried-length carrying) ∙ ap (map (λ l. l .1)) (spread .labels)
