@@ -11,8 +11,9 @@ use Rattle.rules.specs.Sizes as rules
 use Rattle.rules.specs.Sizes.{number, number-at, Outcome, refused, accepted}
 use Rattle.calls.specs.declared.answer.Answer.{Answer}
 use Rattle.calls.specs.declared.answer.Answer.the-variants.{Accepted, Refused}
-use Rattle.calls.specs.declared.answer.Refusal.{Refusal}
+use Rattle.calls.specs.declared.numbers.Numbered.{Numbered}
 use Rattle.calls.specs.Answer.{refusal-number, refusal, takes}
+use Rattle.calls.specs.Numbered.{numbered-as}
 use Rattle.calls.specs.Promise.{Slice, Promised}
 use Rattle.calls.proofs.Promises.{takes-one, refusal-no-takes}
 use Rattle.gridfile.specs.declared.request.Request.{Request}
@@ -74,8 +75,8 @@ module _ {before after : List ℕ} {count : ℕ} where
 
 module _ {before after : List ℕ} {count : ℕ} where
   -- By the case that the code is in.
-  pub of-refusal : {is x : Refusal} → is ≡ x → OutcomeSent (refused (refusal-number x)) before after count → OutcomeSent (refused (refusal-number is)) before after count
-  of-refusal e sent = subst (λ (x : Refusal). OutcomeSent (refused (refusal-number x)) before after count) (sym e) sent
+  pub of-number : {is x : Numbered} {meant : rules.Refusal} → numbered-as is ≡ meant → is ≡ x → OutcomeSent (refused (numbered-as x)) before after count → OutcomeSent (refused meant) before after count
+  of-number means e sent = subst (λ (r : rules.Refusal). OutcomeSent (refused r) before after count) (sym (ap numbered-as e) ∙ means) sent
 
   pub of-answer : {is x : Answer} (cells : List Float) → is ≡ x → OutcomeSent (stated x cells) before after count → OutcomeSent (stated is cells) before after count
   of-answer cells e sent = subst (λ (x : Answer). OutcomeSent (stated x cells) before after count) (sym e) sent

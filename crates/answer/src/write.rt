@@ -1,6 +1,8 @@
 // The bytes of what a search answered.
 use calls::Answer;
+use calls::Numbered;
 use calls::Refusal;
+use calls::number_of;
 use gridfile::write_accepted;
 use gridfile::write_refused;
 use gridfile::write_refused_at;
@@ -17,14 +19,10 @@ fn write_refusal(refusal: Refusal, output: &mut [u8]) -> usize
     requires { ⌜ longest ≤ length (now output) ⌝ }
     ensures { λ r. ⌜ OutcomeSent (refused (refusal-number refusal)) (now (output .entry)) (now (output .exit)) r ⌝ }
 {
-    match refusal {
-        Refusal::SizeOutOfBounds => write_refused(1, output),
-        Refusal::SizesDiffer => write_refused(2, output),
-        Refusal::WrongLength => write_refused(3, output),
-        Refusal::BadCellSize => write_refused(4, output),
-        Refusal::BadLimit => write_refused(5, output),
-        Refusal::NegativeTime(index) => write_refused_at(6, index, output),
-        Refusal::OverBudget(index) => write_refused_at(7, index, output),
+    let numbered = number_of(refusal);
+    match numbered {
+        Numbered::Plain(status) => write_refused(status, output),
+        Numbered::At(status, index) => write_refused_at(status, index, output),
     }
 }
 

@@ -7,6 +7,7 @@ use Rattle.rules.specs.Sizes as rules
 use Rattle.rules.specs.Sizes.{number, number-at, passes, stops, Outcome}
 use Rattle.rules.proofs.Decided.{reading-decides}
 use Rattle.calls.specs.Answer.{Refusal, SizeOutOfBounds, SizesDiffer, WrongLength, BadCellSize, BadLimit, NegativeTime, OverBudget, Judged, Passes, Stops, Answer, Accepted, Refused, refusal-number, judged-as, Told, refusal, takes, told, tell}
+use Rattle.calls.specs.Numbered.{Numbered, Plain, At, numbered-as}
 
 -- From document 01's numbers back to the code's cases. What no case has is sent anywhere.
 refusal-of : rules.Refusal → Refusal
@@ -54,6 +55,19 @@ judged-decides a b same = sym (judged-back a) ∙ ap judged-of same ∙ judged-b
 
 pub refusals-decide : {refusals : rules.Judged} (a b : Judged) → judged-as a ≡ refusals → judged-as b ≡ refusals → a ≡ b
 refusals-decide a b = reading-decides judged-as judged-decides a b
+
+-- `number_of`: so do two numbers, with an index or without one.
+numbered-of : rules.Refusal → Numbered
+numbered-of (number k) = Plain k
+numbered-of (number-at k i) = At k i
+
+numbered-back : (n : Numbered) → numbered-of (numbered-as n) ≡ n
+unfolding numbered-of
+numbered-back (Plain k) = refl
+numbered-back (At k i) = refl
+
+pub numbered-decides : {refusal : rules.Refusal} (a b : Numbered) → numbered-as a ≡ refusal → numbered-as b ≡ refusal → a ≡ b
+numbered-decides a b = reading-decides numbered-as (λ m n same. sym (numbered-back m) ∙ ap numbered-of same ∙ numbered-back n) a b
 
 pub outcome-decides : (outcome : Outcome) (a b : Answer) → told a ≡ tell outcome → told b ≡ tell outcome → a ≡ b
 outcome-decides outcome a b = reading-decides told told-decides a b

@@ -1,3 +1,4 @@
 pub mod Answer
 pub mod Given
+pub mod Numbered
 pub mod Promise

@@ -4,7 +4,7 @@
 // applies (`judge_1` to `judge_8`), found before anything is written; that work buffers can be left
 // all zero and an answer all NaN (`fill_bytes`, `fill_nan`); and that scaling multiplies every cell by
 // the cell size, with one NaN for all (`scale`, `settle`). specs/Answer.antt gives document 01's
-// number for each refusal, and says what a call leaves in the lent slices; every promise goes through
+// number for each refusal (`number_of`), and says what a call leaves in the lent slices; every promise goes through
 // it. proofs/ has what a search concludes from a judgement.
 mod answer;
 mod fill;
@@ -12,6 +12,7 @@ mod judge_distances;
 mod judge_sums;
 mod judge_values;
 mod limits;
+mod numbers;
 mod order;
 mod scaling;
 mod shape;
@@ -33,5 +34,7 @@ pub use judge_sums::judge_8;
 pub use judge_values::judge_4;
 pub use judge_values::judge_5;
 pub use judge_values::judge_6;
+pub use numbers::Numbered;
+pub use numbers::number_of;
 pub use scaling::scale;
 pub use scaling::settle;

@@ -117,7 +117,7 @@ same [] (b ∷ more) = false
 same (a ∷ rest) [] = false
 same (a ∷ rest) (b ∷ more) = eqb a b && same rest more
 
--- Diagonals: 0 Include, 1 Exclude.
+-- Diagonals: 0 Include, 1 Exclude, as is any other number, which no file has.
 abbrev pub diagonals-of : ℕ → BarrierDiagonals
 diagonals-of flag = cond (eqb flag 0) Include Exclude
 

@@ -2,10 +2,11 @@
 //
 // The crate promises that `parse` gives, for every byte string, what specs/Request.antt reads in it: the
 // request, or refusal 8. A request says where in the file its grids stand; `copy_bytes` and
-// `read_floats` fetch them. `write_refused`, `write_refused_at` and `write_accepted` write exactly the
-// bytes of specs/Answers.antt. There is no input and no output here. proofs/Requests.antt has what a
-// program may rely on in a request, proofs/ReadBack.antt that the fields of a file are those that were
-// written, and proofs/Cases.antt files and answers on which the definitions were computed.
+// `read_floats` fetch them, and `diagonals_of` reads the flag for diagonals. `write_refused`,
+// `write_refused_at` and `write_accepted` write exactly the bytes of specs/Answers.antt. There is no
+// input and no output here. proofs/Requests.antt has what a program may rely on in a request,
+// proofs/ReadBack.antt that the fields of a file are those that were written, and proofs/Cases.antt
+// files and answers on which the definitions were computed.
 mod answers;
 mod contents;
 mod fields;
@@ -27,4 +28,5 @@ pub use grids::Grids;
 pub use head::FILE_CELLS_MAX;
 pub use request::Parsed;
 pub use request::Request;
+pub use request::diagonals_of;
 pub use request::parse;

@@ -31,8 +31,8 @@ pub enum Parsed {
     Bad,
 }
 
-// The diagonals that a flag stands for.
-fn diagonals_of(flag: u8) -> BarrierDiagonals
+// The diagonals that a flag stands for: 0 is Include, any other number Exclude.
+pub fn diagonals_of(flag: u32) -> BarrierDiagonals
     ensures { λ r. ⌜ r ≡ diagonals-of flag ⌝ }
 {
     if flag == 0 {
@@ -48,7 +48,7 @@ fn request_of(head: Head, grids: Grids) -> Request
 {
     Request {
         search: head.search,
-        diagonals: diagonals_of(head.diagonals),
+        diagonals: diagonals_of(head.diagonals as u32),
         adjacent: head.adjacent == 1,
         size: Size {
             rows: head.rows as i32,

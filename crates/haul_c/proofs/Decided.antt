@@ -12,7 +12,8 @@ use Rattle.calls.specs.Promise.{slice, Same}
 use Rattle.distances.proofs.Decided.{distances-up-to-decided, distance-with-obstacles-decided, travel-distances-up-to-decided}
 use Rattle.values.proofs.Decided.{SameValues, value-at-closest-target-decided, value-at-closest-travel-target-decided, value-at-closest-less-than-travel-target-decided}
 use Rattle.sums.proofs.Decided.{SameSums, sum-within-decided, SameGains, sum-targets-decided}
-use Rattle.haul_c.specs.Export.{status, takes-after, index-after, Exported, size, spacing, diagonals-of, yes, ExportedUpTo, ExportedObstacles, ExportedTravelUpTo, ExportedClosest, ExportedClosestTravel, ExportedClosestLessThan, ExportedSumWithin, ExportedSumTargets}
+use Rattle.gridfile.specs.Request.{diagonals-of}
+use Rattle.haul_c.specs.Export.{status, takes-after, index-after, Exported, size, spacing, yes, ExportedUpTo, ExportedObstacles, ExportedTravelUpTo, ExportedClosest, ExportedClosestTravel, ExportedClosestLessThan, ExportedSumWithin, ExportedSumTargets}
 
 -- Two exports report the same: the status, the takes and the index, and what the searches that they report left, which with what these answered is
 -- the search's own `Same`.

@@ -2,15 +2,13 @@
 use mathlib.Core.Bool.{Bool, not}
 use mathlib.Core.List.{List}
 use mathlib.Core.Path.{_≡_}
-use Prim.Native.Nat.{ℕ, zero, suc}
+use Prim.Native.Nat.{ℕ}
 use lib.Dec.{eqb}
 use lib.IntN.{ℤ}
 use lib.Ieee.{Float}
 use Rattle.binary32.specs.Numbers.{plus-zero}
 use Rattle.rules.specs.declared.Size.{Size}
 use Rattle.rules.specs.declared.Spacing.{Spacing}
-use Rattle.rules.specs.declared.BarrierDiagonals.{BarrierDiagonals}
-use Rattle.rules.specs.declared.BarrierDiagonals.the-variants.{Include, Exclude}
 use Rattle.rules.specs.Sizes.{number, number-at}
 use Rattle.calls.specs.declared.answer.Answer.{Answer}
 use Rattle.calls.specs.Answer.{Told, refusal, takes, told}
@@ -18,6 +16,7 @@ use Rattle.calls.specs.Promise.{Slice}
 use Rattle.distances.specs.Promise.{DistancesUpTo, DistanceWithObstacles, TravelDistancesUpTo}
 use Rattle.values.specs.Promise.{ValueAtClosestTarget, ValueAtClosestTravelTarget, ValueAtClosestLessThanTravelTarget}
 use Rattle.sums.specs.Promise.{SumWithinTravelDistance, SumTargetsWithinTravelDistance}
+use Rattle.gridfile.specs.Request.{diagonals-of}
 
 -- 0, or the refusal's number.
 abbrev pub status : Told → ℕ
@@ -54,11 +53,6 @@ size rows columns = record { rows = rows; cols = columns }
 
 abbrev pub spacing : Float → Float → Spacing
 spacing cell-size limit = record { «cell_size» = cell-size; limit = limit }
-
--- 0 is Include, any other number Exclude.
-abbrev pub diagonals-of : ℕ → BarrierDiagonals
-diagonals-of zero = Include
-diagonals-of (suc k) = Exclude
 
 -- 0 is no, any other number yes.
 abbrev pub yes : ℕ → Bool

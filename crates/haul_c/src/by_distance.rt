@@ -3,12 +3,11 @@ use crate::report::report;
 use distances::distance_with_obstacles;
 use distances::distances_up_to;
 use distances::travel_distances_up_to;
-use rules::BarrierDiagonals;
+use gridfile::diagonals_of;
 use rules::Size;
 use rules::Spacing;
-ghost use mathlib.Core.Path.{_≡_};
 ghost use Rattle.calls.specs.Promise.{slice};
-ghost use Rattle.haul_c.specs.Export.{ExportedUpTo, ExportedObstacles, ExportedTravelUpTo, diagonals-of};
+ghost use Rattle.haul_c.specs.Export.{ExportedUpTo, ExportedObstacles, ExportedTravelUpTo};
 
 // Exports search 1, `distances_up_to`.
 #[no_mangle]
@@ -35,18 +34,7 @@ pub extern "C" fn haul_distances_up_to(
     report(answered, takes, index)
 }
 
-// 0 is Include, any other number Exclude.
-fn diagonals_of(flag: u32) -> BarrierDiagonals
-    ensures { λ r. ⌜ r ≡ diagonals-of flag ⌝ }
-{
-    if flag == 0 {
-        BarrierDiagonals::Include
-    } else {
-        BarrierDiagonals::Exclude
-    }
-}
-
-// Exports search 2, `distance_with_obstacles`.
+// Exports search 2, `distance_with_obstacles`. For the diagonals 0 is Include, any other number Exclude.
 #[no_mangle]
 pub extern "C" fn haul_distance_with_obstacles(
     rows: i32,

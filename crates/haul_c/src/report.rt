@@ -1,6 +1,7 @@
 // What a call answers, as numbers.
 use calls::Answer;
-use calls::Refusal;
+use calls::Numbered;
+use calls::number_of;
 ghost use Rattle.calls.specs.Answer.{told};
 ghost use Rattle.haul_c.specs.Export.{Reported};
 
@@ -13,20 +14,15 @@ pub fn report(answer: Answer, takes: &mut u64, index: &mut u32) -> u32
             *takes = counts.takes;
             0
         }
-        Answer::Refused(refusal) => match refusal {
-            Refusal::SizeOutOfBounds => 1,
-            Refusal::SizesDiffer => 2,
-            Refusal::WrongLength => 3,
-            Refusal::BadCellSize => 4,
-            Refusal::BadLimit => 5,
-            Refusal::NegativeTime(at) => {
-                *index = at;
-                6
+        Answer::Refused(refusal) => {
+            let numbered = number_of(refusal);
+            match numbered {
+                Numbered::Plain(status) => status as u32,
+                Numbered::At(status, at) => {
+                    *index = at;
+                    status as u32
+                }
             }
-            Refusal::OverBudget(at) => {
-                *index = at;
-                7
-            }
-        },
+        }
     }
 }

@@ -6,14 +6,17 @@ use native.Mathlib.Omega.{arith}
 use Rattle.gridfile.proofs.request.request_of.Statement.{statement}
 use Rattle.gridfile.proofs.request.request_of.Tie as tie
 
+cast-diagonals-of : tie.Need-cast-diagonals-of
+cast-diagonals-of c = search needs
+
 diagonals-of-requires : tie.Need-diagonals-of-requires
 diagonals-of-requires c κs = search needs
 
-cast-t5 : tie.Need-cast-t5
-cast-t5 c = search needs
-
 cast-t6 : tie.Need-cast-t6
 cast-t6 c = search needs
+
+cast-t7 : tie.Need-cast-t7
+cast-t7 c = search needs
 
 of-bits-requires : tie.Need-of-bits-requires
 of-bits-requires c κs = search needs
@@ -23,7 +26,7 @@ of-bits-requires-2 c κs = search needs
 
 returns : tie.Need-returns
 returns c =
-    let h = c .before .before .before .before .before .before .args .head in
+    let h = c .before .before .before .before .before .before .before .args .head in
     let rows = toZ-pos w32 {n = h .rows} (omega arith) in
     let cols = toZ-pos w32 {n = h .cols} (omega arith) in
     simp (rows, cols, c .before .before .before .before .before .diagonals-of .ensures, c .before .of-bits .ensures, c .of-bits2 .ensures)
@@ -31,4 +34,11 @@ returns c =
 pub request-of-spec : {M : Type 1} → statement M
 request-of-spec =
     tie.close
-    (tie.spec diagonals-of-requires cast-t5 cast-t6 of-bits-requires of-bits-requires-2 returns)
+    (tie.spec
+    cast-diagonals-of
+    diagonals-of-requires
+    cast-t6
+    cast-t7
+    of-bits-requires
+    of-bits-requires-2
+    returns)
