@@ -2,10 +2,10 @@
 //
 // The crate promises that each search's judgement is the first of document 01's refusals 1 to 6 that
 // applies (`judge_1` to `judge_8`), found before anything is written; that work buffers can be left
-// all zero and an answer all NaN (`fill_bytes`, `fill_nan`); and that scaling multiplies every cell by
-// the cell size, with one NaN for all (`scale`, `settle`). specs/Answer.antt gives document 01's
-// number for each refusal (`number_of`), and says what a call leaves in the lent slices; every promise goes through
-// it. proofs/ has what a search concludes from a judgement.
+// all zero and an answer all NaN (`fill_bytes`, `fill_nan`); that scaling multiplies every cell by the
+// cell size, with one NaN for all (`scale`, `settle`); and that a refusal has document 01's number
+// (`number_of`). specs/Answer.antt gives that number, and says what a call leaves in the lent slices;
+// every promise goes through it. proofs/ has what a search concludes from a judgement.
 mod answer;
 mod fill;
 mod judge_distances;
