@@ -212,7 +212,7 @@ module _ (size : Size) (u : ℕ) (interior : Interior size u) where
   around-above = let place = by-place in let start = row-above row cols (interior .above) in let stands = div-add-mod' u cols in let some = interior .left in omega arith
 
   -- The struct with the eight cells lists its neighbours.
-  pub around-lists : Lists size u (record { cells = around cols u; sideways = 2; straight = 4; count = 8 })
+  pub around-lists : Lists size u (record { cells = around cols u; straight = 4; count = 8 })
   unfolding neighbours
   around-lists =
       all-filled (interior .cell)
@@ -221,6 +221,5 @@ module _ (size : Size) (u : ℕ) (interior : Interior size u) where
         cells-are = rw around-it;
         found-is = rw around-it;
         few = omega arith;
-        sideways-is = λ late. rw (to-right, to-left);
         straight-is = λ late. rw (to-right, to-left, to-below, to-above);
       })

@@ -14,7 +14,7 @@ use Rattle.rules.specs.declared.Size.{Size}
 use Rattle.rules.specs.Sizes.{count}
 use Rattle.rules.specs.Cells.{offsets, neighbour, neighbours, straight-neighbours, diagonal-neighbours}
 use Rattle.cells.specs.Neighbours.{Neighbours, Lists, CellOf}
-use Rattle.cells.proofs.NeighbourLists.{straight-split, neighbours-split, one-more, at-most-one}
+use Rattle.cells.proofs.NeighbourLists.{neighbours-split, one-more, at-most-one}
 
 -- ---- the array that is filled
 
@@ -44,21 +44,20 @@ padded-more found more most =
 
 -- ---- the loop
 
--- After i offsets: what was found among them is in the array, and counted; two and four offsets on their counts were recorded.
-pub record Filled (size : Size) (u : ℕ) (cells : List ℕ) (sideways straight found i : ℕ) : Type 0 where
+-- After i offsets: what was found among them is in the array, and counted; four offsets on the count was recorded.
+pub record Filled (size : Size) (u : ℕ) (cells : List ℕ) (straight found i : ℕ) : Type 0 where
   pub tried : i ≤ 8
   pub cells-are : cells ≡ padded (neighbours size u (take i offsets))
   pub found-is : found ≡ length (neighbours size u (take i offsets))
   pub few : found ≤ i
-  pub sideways-is : 2 ≤ i → sideways ≡ length (neighbours size u (take 2 offsets))
   pub straight-is : 4 ≤ i → straight ≡ length (straight-neighbours size u)
 
--- A count is recorded where k offsets have been tried, and otherwise stays.
-abbrev pub Recorded : ℕ → ℕ → ℕ → ℕ → ℕ → Type 0
-Recorded k tried found old new = ((tried ≡ k) × (new ≡ found)) ⊎ ((tried ≡ k → ⊥) × (new ≡ old))
+-- The count is recorded where four offsets have been tried, and otherwise stays.
+abbrev pub Recorded : ℕ → ℕ → ℕ → ℕ → Type 0
+Recorded tried found old new = ((tried ≡ 4) × (new ≡ found)) ⊎ ((tried ≡ 4 → ⊥) × (new ≡ old))
 
 module _ (size : Size) (u : ℕ) where
-  pub none-filled : Filled size u (zeros 8) 0 0 0 0
+  pub none-filled : Filled size u (zeros 8) 0 0 0
   unfolding neighbours
   none-filled =
       record {
@@ -66,26 +65,24 @@ module _ (size : Size) (u : ℕ) where
         cells-are = refl;
         found-is = refl;
         few = omega arith;
-        sideways-is = λ late. absurd (lt-irrefl 0 (omega arith));
         straight-is = λ late. absurd (lt-irrefl 0 (omega arith));
       }
 
   recorded :
-      (k i : ℕ) {found old new : ℕ} → (k ≤ i → old ≡ length (neighbours size u (take k offsets))) → found ≡ length (neighbours size u (take (i + 1) offsets))
-      → Recorded k (i + 1) found old new → k ≤ i + 1 → new ≡ length (neighbours size u (take k offsets))
-  recorded k i before found-is (inl now) late = now .1 ∙ found-is ∙ ap (λ (n : ℕ). length (neighbours size u (take n offsets))) (now .0)
-  recorded k i before found-is (inr other) late = let still-late : k ≤ i = le-of-other (other .0) late in other .1 ∙ before still-late
+      (i : ℕ) {found old new : ℕ} → (4 ≤ i → old ≡ length (straight-neighbours size u)) → found ≡ length (neighbours size u (take (i + 1) offsets))
+      → Recorded (i + 1) found old new → 4 ≤ i + 1 → new ≡ length (straight-neighbours size u)
+  recorded i before found-is (inl now) late = now .1 ∙ found-is ∙ ap (λ (n : ℕ). length (neighbours size u (take n offsets))) (now .0)
+  recorded i before found-is (inr other) late = let still-late : 4 ≤ i = le-of-other (other .0) late in other .1 ∙ before still-late
     where
-      le-of-other : (i + 1 ≡ k → ⊥) → k ≤ i + 1 → k ≤ i
+      le-of-other : (i + 1 ≡ 4 → ⊥) → 4 ≤ i + 1 → 4 ≤ i
       le-of-other differs most = omega arith
 
   -- One offset more. Proof: the array behind those that were found is 0, so that storing there appends.
   pub more-filled :
-      {cells cells′ : List ℕ} {sideways straight found i found′ sideways′ straight′ : ℕ} → Filled size u cells sideways straight found i → i < 8
+      {cells cells′ : List ℕ} {straight found i found′ straight′ : ℕ} → Filled size u cells straight found i → i < 8
       → cells′ ≡ sets cells found (neighbour size u (getD offsets i [])) → found′ ≡ found + length (neighbour size u (getD offsets i []))
-      → Recorded 2 (i + 1) found′ sideways sideways′ → Recorded 4 (i + 1) found′ straight straight′
-      → Filled size u cells′ sideways′ straight′ found′ (i + 1)
-  more-filled {cells} {found = found} {i = i} {found′ = found′} before less stored counted at-two at-four =
+      → Recorded (i + 1) found′ straight straight′ → Filled size u cells′ straight′ found′ (i + 1)
+  more-filled {cells} {found = found} {i = i} {found′ = found′} before less stored counted at-four =
       let so-far = neighbours size u (take i offsets) in
       let here = neighbour size u (getD offsets i []) in
       let few = before .few in
@@ -100,8 +97,7 @@ module _ (size : Size) (u : ℕ) where
             ∙ padded-more so-far here (omega arith) ∙ ap padded (sym (one-more size u i less));
         found-is = found′-is;
         few = omega arith;
-        sideways-is = recorded 2 i (before .sideways-is) found′-is at-two;
-        straight-is = recorded 4 i (before .straight-is) found′-is at-four;
+        straight-is = recorded i (before .straight-is) found′-is at-four;
       }
 
 -- ---- the struct
@@ -114,47 +110,38 @@ padded-below bound some [] each (suc n) (suc k) = padded-below bound some [] eac
 padded-below bound some (v ∷ found) each n zero = each v (inl refl)
 padded-below bound some (v ∷ found) each n (suc k) = padded-below bound some found (λ w later. each w (inr later)) n k
 
--- A list in three parts, each read off by the counts up to its ends, with the rest behind them.
-module _ (a b d rest : List ℕ) where
-  first-part : take (length a) (a ++ b ++ d ++ rest) ≡ a
-  first-part = rw (append-assoc (a ++ b) d rest, append-assoc a b (d ++ rest)) (take-append-seam a (b ++ (d ++ rest)))
+-- A list in two parts, each read off by the counts up to its ends, with the rest behind them.
+module _ (a b rest : List ℕ) where
+  first-part : take (length a) (a ++ b ++ rest) ≡ a
+  first-part = rw (append-assoc a b rest) (take-append-seam a (b ++ rest))
 
-  two-parts : take (length (a ++ b)) (a ++ b ++ d ++ rest) ≡ a ++ b
-  two-parts = rw (append-assoc (a ++ b) d rest) (take-append-seam (a ++ b) (d ++ rest))
+  second-part : take (length (a ++ b) - length a) (drop (length a) (a ++ b ++ rest)) ≡ b
+  second-part =
+      let left : length (a ++ b) - length a ≡ length b = rw (length-append a b) (omega arith) in
+      rw (left, append-assoc a b rest, drop-append-seam a (b ++ rest)) (take-append-seam b rest)
 
-  third-part : take (length (a ++ b ++ d) - length (a ++ b)) (drop (length (a ++ b)) (a ++ b ++ d ++ rest)) ≡ d
-  third-part =
-      let left : length (a ++ b ++ d) - length (a ++ b) ≡ length d = rw (length-append (a ++ b) d) (omega arith) in
-      rw (left, append-assoc (a ++ b) d rest, drop-append-seam (a ++ b) (d ++ rest)) (take-append-seam d rest)
+  behind-parts : drop (length (a ++ b)) (a ++ b ++ rest) ≡ rest
+  behind-parts = drop-append-seam (a ++ b) rest
 
-  behind-parts : drop (length (a ++ b ++ d)) (a ++ b ++ d ++ rest) ≡ rest
-  behind-parts = drop-append-seam (a ++ b ++ d) rest
-
--- Where all eight offsets have been tried, the struct lists the neighbours. Proof: the straight ones begin with those right and left, the
--- diagonal ones follow, and behind them the array is 0. The recorded counts are the lengths up to those ends.
+-- Where all eight offsets have been tried, the struct lists the neighbours. Proof: the diagonal ones follow the straight ones, and behind
+-- them the array is 0. The counts are the lengths up to those ends.
 pub all-filled :
-    {size : Size} {u : ℕ} {cells : List ℕ} {sideways straight found : ℕ} → CellOf size u → Filled size u cells sideways straight found 8
-    → Lists size u (record { cells = cells; sideways = sideways; straight = straight; count = found })
-all-filled {size} {u} {cells} {sideways} {straight} {found} cell filled =
-    let a = neighbours size u (take 2 offsets) in
-    let b = neighbours size u (take 2 (drop 2 offsets)) in
-    let d = diagonal-neighbours size u in
-    let parts : neighbours size u offsets ≡ a ++ b ++ d = neighbours-split size u ∙ ap (λ (l : List ℕ). l ++ d) (straight-split size u) in
-    let rest = zeros (8 - length (a ++ b ++ d)) in
-    let cells-are : cells ≡ a ++ b ++ d ++ rest = filled .cells-are ∙ ap padded parts in
-    let found-is : found ≡ length (a ++ b ++ d) = filled .found-is ∙ ap length parts in
-    let sideways-is = filled .sideways-is (omega arith) in
-    let straight-is : straight ≡ length (a ++ b) = filled .straight-is (omega arith) ∙ ap length (straight-split size u) in
+    {size : Size} {u : ℕ} {cells : List ℕ} {straight found : ℕ} → CellOf size u → Filled size u cells straight found 8
+    → Lists size u (record { cells = cells; straight = straight; count = found })
+all-filled {size} {u} {cells} {straight} {found} cell filled =
+    let a = straight-neighbours size u in
+    let b = diagonal-neighbours size u in
+    let rest = zeros (8 - length (a ++ b)) in
+    let cells-are : cells ≡ a ++ b ++ rest = filled .cells-are ∙ ap padded (neighbours-split size u) in
+    let found-is : found ≡ length (a ++ b) = filled .found-is ∙ ap length (neighbours-split size u) in
+    let straight-is : straight ≡ length a = filled .straight-is (omega arith) in
     let few = filled .few in
     let long : length (a ++ b) ≡ length a + length b = length-append a b in
-    let longer : length (a ++ b ++ d) ≡ length (a ++ b) + length d = length-append (a ++ b) d in
     record {
-      right-left = rw (sideways-is, cells-are) (first-part a b d rest);
-      straight-ones = rw (straight-is, cells-are) (two-parts a b d rest ∙ sym (straight-split size u));
-      diagonal-ones = rw (straight-is, found-is, cells-are) (third-part a b d rest);
-      rest = rw (found-is, cells-are) (behind-parts a b d rest);
-      eight = rw cells-are (padded-long (a ++ b ++ d) (omega arith));
-      sideways-most = omega arith;
+      straight-ones = rw (straight-is, cells-are) (first-part a b rest);
+      diagonal-ones = rw (straight-is, found-is, cells-are) (second-part a b rest);
+      rest = rw (found-is, cells-are) (behind-parts a b rest);
+      eight = rw cells-are (padded-long (a ++ b) (omega arith));
       straight-most = omega arith;
       count-most = omega arith;
       inside =
@@ -171,11 +158,8 @@ begins k l part most e = sym (length-take-le k l most) ∙ ap length e
 
 module _ {size : Size} {u : ℕ} {r : Neighbours} (lists : Lists size u r) where
   -- The order of the counts, for `omega` to read.
-  ordered : (r .sideways ≤ r .straight) × (r .straight ≤ r .count) × (r .count ≤ 8) × (length (r .cells) ≡ 8)
-  ordered = (lists .sideways-most, lists .straight-most, lists .count-most, lists .eight)
-
-  pub sideways-long : r .sideways ≡ length (neighbours size u (take 2 offsets))
-  sideways-long = let order = ordered in begins (r .sideways) (r .cells) (neighbours size u (take 2 offsets)) (omega arith) (lists .right-left)
+  ordered : (r .straight ≤ r .count) × (r .count ≤ 8) × (length (r .cells) ≡ 8)
+  ordered = (lists .straight-most, lists .count-most, lists .eight)
 
   pub straight-long : r .straight ≡ length (straight-neighbours size u)
   straight-long = let order = ordered in begins (r .straight) (r .cells) (straight-neighbours size u) (omega arith) (lists .straight-ones)
@@ -201,9 +185,8 @@ module _ {size : Size} {u : ℕ} {r : Neighbours} (lists : Lists size u r) where
 -- ones and zeros.
 pub lists-decided : {size : Size} {u : ℕ} {r s : Neighbours} → Lists size u r → Lists size u s → r ≡ s
 lists-decided {size} {u} {r} {s} first second =
-    let sideways-same = sideways-long first ∙ sym (sideways-long second) in
     let straight-same = straight-long first ∙ sym (straight-long second) in
     let count-same = count-long first ∙ sym (count-long second) in
     let tail : ℕ → List ℕ = λ n. straight-neighbours size u ++ (diagonal-neighbours size u ++ zeros (8 - n)) in
     let cells-same : r .cells ≡ s .cells = cells-whole first ∙ ap tail count-same ∙ sym (cells-whole second) in
-    λ i. record { cells = cells-same i; sideways = sideways-same i; straight = straight-same i; count = count-same i }
+    λ i. record { cells = cells-same i; straight = straight-same i; count = count-same i }

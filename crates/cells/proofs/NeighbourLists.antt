@@ -26,10 +26,7 @@ module _ (size : Size) (u : ℕ) where
   neighbours-append (offset ∷ a) b =
       ap (λ (l : List ℕ). neighbour size u offset ++ l) (neighbours-append a b) ∙ sym (append-assoc (neighbour size u offset) (neighbours size u a) (neighbours size u b))
 
-  -- The straight ones begin with those right and left, and the diagonal ones follow them.
-  pub straight-split : straight-neighbours size u ≡ neighbours size u (take 2 offsets) ++ neighbours size u (take 2 (drop 2 offsets))
-  straight-split = neighbours-append (take 2 offsets) (take 2 (drop 2 offsets))
-
+  -- The straight ones come first, and the diagonal ones follow them.
   pub neighbours-split : neighbours size u offsets ≡ straight-neighbours size u ++ diagonal-neighbours size u
   neighbours-split = neighbours-append (take 4 offsets) (drop 4 offsets)
 

@@ -6,7 +6,7 @@ use lib.IntN.{pos}
 use lib.ListN.{length, getD, take, drop, replicate}
 use Rattle.rules.specs.declared.Size.{Size}
 use Rattle.rules.specs.Sizes.{in-bounds, count}
-use Rattle.rules.specs.Cells.{offsets, row-of, col-of, neighbours, straight-neighbours, diagonal-neighbours}
+use Rattle.rules.specs.Cells.{row-of, col-of, straight-neighbours, diagonal-neighbours}
 pub use Rattle.cells.specs.declared.neighbours.Neighbours.{Neighbours}
 pub use Rattle.cells.specs.declared.neighbours.Place.{Place}
 
@@ -19,15 +19,13 @@ pub record CellOf (size : Size) (u : ℕ) : Type 0 where
 abbrev pub place-of : Size → ℕ → Place
 place-of size u = record { row = pos (row-of size u); col = pos (col-of size u) }
 
--- The struct holds u's neighbours in trying order: first the `sideways` of them that are right and left, up to `straight` those below and
--- above, up to `count` the diagonal ones. The entries past them are 0, so that the size and the cell decide the whole struct.
+-- The struct holds u's neighbours in trying order: up to `straight` the straight ones, up to `count` the diagonal ones. The entries past
+-- them are 0, so that the size and the cell decide the whole struct.
 pub record Lists (size : Size) (u : ℕ) (r : Neighbours) : Type 0 where
-  pub right-left : take (r .sideways) (r .cells) ≡ neighbours size u (take 2 offsets)
   pub straight-ones : take (r .straight) (r .cells) ≡ straight-neighbours size u
   pub diagonal-ones : take (r .count - r .straight) (drop (r .straight) (r .cells)) ≡ diagonal-neighbours size u
   pub rest : drop (r .count) (r .cells) ≡ replicate (8 - r .count) 0
   pub eight : length (r .cells) ≡ 8
-  pub sideways-most : r .sideways ≤ r .straight
   pub straight-most : r .straight ≤ r .count
   pub count-most : r .count ≤ 8
   pub inside : (k : ℕ) → getD (r .cells) k 0 < count size

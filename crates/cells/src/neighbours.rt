@@ -19,11 +19,10 @@ pub const OFFSETS: [[i32; 2]; 8] = [
     [-1, -1], // above left
 ];
 
-// The neighbours that there are, the straight ones first. Up to `sideways` they are right and left, up
-// to `straight` below and above, up to `count` diagonal.
+// The neighbours that there are: up to `straight` those to the sides, below and above, up to `count` the
+// diagonal ones.
 pub struct Neighbours {
     pub cells: [u32; 8],
-    pub sideways: usize,
     pub straight: usize,
     pub count: usize,
 }
@@ -114,23 +113,18 @@ pub fn neighbours_of(size: Size, cell: u32) -> Neighbours
 {
     let place = place_of(size, cell);
     let mut cells = [0u32; 8];
-    let mut sideways: usize = 0;
     let mut straight: usize = 0;
     let mut count: usize = 0;
     let mut i: usize = 0;
     while i < 8 {
         count = store_neighbour(&mut cells, count, size, place.row, place.col, i);
         i += 1;
-        if i == 2 {
-            sideways = count;
-        }
         if i == 4 {
             straight = count;
         }
     }
     Neighbours {
         cells,
-        sideways,
         straight,
         count,
     }
@@ -172,7 +166,6 @@ fn interior_neighbours(size: Size, cell: u32) -> Neighbours
             below - 1,
             above - 1,
         ],
-        sideways: 2,
         straight: 4,
         count: 8,
     }

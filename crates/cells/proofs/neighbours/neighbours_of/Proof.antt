@@ -1,6 +1,6 @@
 -- `neighbours::neighbours_of` meets its contract. The loop's invariant is `Filled`; the measure is the number of offsets that are left. Assumes nothing.
 use mathlib.Core.Path.{_≡_, refl}
-use mathlib.Core.Logic.{inl, inr, ⊎-elim}
+use mathlib.Core.Logic.{inl, inr}
 use Prim.Native.Nat.{ℕ, _+_, _-_}
 use native.Mathlib.Omega.{arith}
 use borrow.Author.Needs.{needs}
@@ -11,10 +11,10 @@ use Rattle.cells.proofs.neighbours.neighbours_of.Statement.{statement}
 use Rattle.cells.proofs.neighbours.neighbours_of.Tie as tie
 
 abbrev Inv-loop : tie.InvT-loop
-Inv-loop size cell place cells₀ sideways₀ straight₀ count₀ i₀ cells sideways straight count i = Filled size cell cells sideways straight count i
+Inv-loop size cell place cells₀ straight₀ count₀ i₀ cells straight count i = Filled size cell cells straight count i
 
 abbrev μ-loop : tie.MeasureT-loop
-μ-loop size cell place cells₀ sideways₀ straight₀ count₀ i₀ cells sideways straight count i = 8 - i
+μ-loop size cell place cells₀ straight₀ count₀ i₀ cells straight count i = 8 - i
 
 place-of-requires : tie.Need-place-of-requires Inv-loop μ-loop
 place-of-requires c κs = search needs
@@ -35,34 +35,29 @@ loop-less : tie.Need-loop-less Inv-loop μ-loop
 loop-less c = omega arith
 
 -- A turn, up to where the straight ones' count is recorded.
-at-two :
-    (c : tie.Joined1 Inv-loop μ-loop)
-    → let head = c .before .before .before .before .before .before in Recorded 2 (head .loop .i + 1) (c .before .store-neighbour .result) (head .loop .sideways) (c .if1 .sideways)
-at-two c = ⊎-elim (λ w. inl (w .0 .taken, w .1)) (λ w. inr (w .0 .left, w .1)) (c .if1 .came)
-
 turned :
-    (c : tie.Joined1 Inv-loop μ-loop) (straight : ℕ)
-    → let head = c .before .before .before .before .before .before in let s = head .before .before in let call = c .before .store-neighbour in
-    Recorded 4 (head .loop .i + 1) (call .result) (head .loop .straight) straight
-    → Filled (s .args .size) (s .args .cell) (call .last .0) (c .if1 .sideways) straight (call .result) (head .loop .i + 1)
+    (c : tie.After-store-neighbour Inv-loop μ-loop) (straight : ℕ)
+    → let head = c .before .before .before .before .before in let s = head .before .before in let call = c .store-neighbour in
+    Recorded (head .loop .i + 1) (call .result) (head .loop .straight) straight
+    → Filled (s .args .size) (s .args .cell) (call .last .0) straight (call .result) (head .loop .i + 1)
 turned c straight at-four =
-    let head = c .before .before .before .before .before .before in
+    let head = c .before .before .before .before .before in
     let s = head .before .before in
-    let stored = c .before .store-neighbour .ensures in
+    let stored = c .store-neighbour .ensures in
     let size = s .args .size in
     let cell = s .args .cell in
     let row-is = place-row size cell (s .pre) (head .before .place-of .ensures) in
     let col-is = place-col size cell (s .pre) (head .before .place-of .ensures) in
-    more-filled size cell (head .loop .inv) (omega arith) (stored .stored cell row-is col-is) (stored .counted cell row-is col-is) (at-two c) at-four
+    more-filled size cell (head .loop .inv) (omega arith) (stored .stored cell row-is col-is) (stored .counted cell row-is col-is) at-four
 
 loop-again : tie.Need-loop-again Inv-loop μ-loop
-loop-again c = turned (c .before) (c .before .before .store-neighbour .result) (inl (c .if2 .taken, refl))
+loop-again c = turned (c .before) (c .before .store-neighbour .result) (inl (c .if1 .taken, refl))
 
 loop-less-2 : tie.Need-loop-less-2 Inv-loop μ-loop
 loop-less-2 c = omega arith
 
 loop-again-2 : tie.Need-loop-again-2 Inv-loop μ-loop
-loop-again-2 c = turned (c .before) (c .before .before .before .before .before .before .before .loop .straight) (inr (c .if2 .left, refl))
+loop-again-2 c = turned (c .before) (c .before .before .before .before .before .before .loop .straight) (inr (c .if1 .left, refl))
 
 returns : tie.Need-returns Inv-loop μ-loop
 returns c =
