@@ -4,12 +4,13 @@ use mathlib.Core.List.{List, [], _∷_, _++_, append-assoc}
 use mathlib.Core.Logic.{_⊎_, inl, inr, ⊎-elim}
 use mathlib.Core.Path.{_≡_, refl, sym, ap, _∙_, subst}
 use Prim.Native.Nat.{ℕ, zero, suc, _+_, _*_, _<_, _≤_}
-use native.Mathlib.Nat.{mul-le-mul}
+use native.Mathlib.Nat.{le-trans, mul-le-mul}
 use native.Mathlib.Omega.{arith}
 use lib.ListN.{length, length-append}
 use Rattle.fifo.specs.Machine.{Net, State, passing, initial, label, take, run, takes, finish, takes-of}
 use Rattle.fifo.specs.Walk.{In}
 use Rattle.fifo.specs.Laws.{room, Enterable, Laws, Sound}
+use Rattle.fifo.specs.Simulation.{Within}
 use Rattle.fifo.proofs.Lists.{tested, true-or-false, same-or-not, in-back, joined-cases, without, length-without, in-without, no-dup-no-longer, in-passing, empty-or-not}
 use Rattle.fifo.proofs.Induction.{awaiting, label-awaiting, label-unstored, after-store, waiting-store, Kept, take-keeps, take-appends, run-keeps, run-zero, run-head, takes-stopped}
 use Rattle.fifo.proofs.Runs.{takes-add, takes-at-most, stops-by, run-past}
@@ -216,6 +217,10 @@ module _ {L : Type 0} {net : Net L} (laws : Laws net) where
 
   room-squared : room net * room net ≤ net .cells * net .cells
   room-squared = mul-le-mul (room-at-most-cells net) (room-at-most-cells net)
+
+  -- No run from the start takes more than the square of the number of cells.
+  pub laws-within : Within (net .cells * net .cells) net
+  laws-within k = le-trans (takes-within-square (initial net) (sound-initial laws) k) room-squared
 
   -- The search ends: nothing waits, and it has taken at most the square of the number of cells that may be entered.
   pub ends-within-square : (finish net .waiting ≡ []) × (takes-of net ≤ room net * room net) × (room net ≤ net .cells)

@@ -2,6 +2,7 @@
 pub mod Nets
 pub mod Cases
 pub mod Lists
+pub mod Ranges
 pub mod Induction
 pub mod Runs
 pub mod Entries

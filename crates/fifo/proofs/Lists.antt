@@ -1,4 +1,4 @@
--- Lists, and lists of cells: membership, no duplicates, a cell that joins, a cell that is removed, the values and the passing cells of a range.
+-- Lists, and lists of cells: membership, no duplicates, a cell that joins, a cell that is removed, the cells of a range that pass a test.
 use mathlib.Core.Bool.{Bool, true, false, cond, _||_, or-true}
 use mathlib.Core.List.{List, [], _∷_, _++_, map, append-nil}
 use mathlib.Core.Logic.{_⊎_, inl, inr, ⊎-elim}
@@ -10,7 +10,7 @@ use native.Mathlib.Omega.{arith}
 use borrow.Author.Tests.{eqb-true, eq-eqb, ne-eqb}
 use lib.Dec.{T, eqb}
 use lib.ListN.{length, getD, set}
-use Rattle.fifo.specs.Machine.{among, joined, table, passing}
+use Rattle.fifo.specs.Machine.{among, joined, passing}
 use Rattle.fifo.specs.Walk.{In, NoDup}
 
 -- To prove something of a choice by a computed test, prove it of both arms, each with what the test then says.
@@ -188,18 +188,6 @@ no-dup-no-longer (w ∷ ws) l n all =
     let shorter = length-without w l (all w (inl refl)) in
     let rest = no-dup-no-longer ws (without w l) (n .1) (λ c i. in-without w c l (λ p. n .0 (rw p at i)) (all c (inr i))) in
     omega arith
-
--- The values of a function over a range.
-pub length-table : {L : Type 0} (f : ℕ → L) (i k : ℕ) → length (table f i k) ≡ k
-unfolding table
-length-table f i zero = refl
-length-table f i (suc k) = ap suc (length-table f (suc i) k)
-
-pub getD-table : {L : Type 0} (f : ℕ → L) (i k j : ℕ) → getD (table f i k) j (f (i + j)) ≡ f (i + j)
-unfolding table
-getD-table f i zero j = refl
-getD-table f i (suc k) zero = ap f (sym (add-zero i))
-getD-table f i (suc k) (suc j) = rw (add-suc, ← suc-add) (getD-table f (suc i) k j)
 
 -- The cells of a range that pass a test.
 pub in-passing : (test : ℕ → Bool) (i k c : ℕ) → i ≤ c → c < i + k → T (test c) → In c (passing test i k)

@@ -1,26 +1,16 @@
 -- A net that simulates another runs as a copy of it: what it tries beyond the other's steps stores nothing.
-use mathlib.Core.Bool.{Bool, false}
+use mathlib.Core.Bool.{false}
 use mathlib.Core.List.{List, _∷_, _++_, map}
 use mathlib.Core.Logic.{_⊎_, inl, inr}
 use mathlib.Core.Path.{_≡_, refl, sym, ap, _∙_, subst}
-use Prim.Native.Nat.{ℕ, zero, suc, _*_}
+use Prim.Native.Nat.{ℕ, suc, _*_}
 use lib.ListN.{List·getD-map}
-use Rattle.fifo.specs.Machine.{Net, State, table, passing, initial, label, store, relax, scan, take, run, takes, trace, finish, takes-of}
+use Rattle.fifo.specs.Machine.{Net, State, initial, label, store, relax, scan, take, run, takes, trace, finish, takes-of}
 use Rattle.fifo.specs.Simulation.{image, Idle, never-below, shut, Steps, done, kept, idle, Simulates, Agrees, Within}
 use Rattle.fifo.proofs.Lists.{true-or-false, same-or-not, map-set}
+use Rattle.fifo.proofs.Ranges.{map-table, passing-same}
 use Rattle.fifo.proofs.Induction.{awaiting, label-awaiting, label-unstored, relax-stores, relax-leaves, relax-cases, Kept, relax-keeps, take-keeps, run-zero, takes-zero, trace-zero, run-stopped, takes-stopped, trace-stopped, run-head, takes-head, trace-head, by-takes}
 use Rattle.fifo.proofs.Sound.{label-initial}
-
--- A function over a table, and two tests that pass the same numbers.
-pub map-table : {A B : Type 0} (g : A → B) (f : ℕ → A) (h : ℕ → B) → ((c : ℕ) → g (f c) ≡ h c) → (i k : ℕ) → map g (table f i k) ≡ table h i k
-unfolding table
-map-table g f h same i zero = refl
-map-table g f h same i (suc k) = rw (same i, map-table g f h same (suc i) k)
-
-pub passing-same : (test test′ : ℕ → Bool) → ((c : ℕ) → test c ≡ test′ c) → (i k : ℕ) → passing test i k ≡ passing test′ i k
-unfolding passing
-passing-same test test′ same i zero = refl
-passing-same test test′ same i (suc k) = rw (same i, passing-same test test′ same (suc i) k)
 
 module _ {L : Type 0} (net : Net L) where
   -- Each cell whose first label has nothing below it has that label still.

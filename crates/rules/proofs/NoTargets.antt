@@ -1,14 +1,12 @@
 -- No targets: 0 takes. Assumes nothing.
 use mathlib.Core.Bool.{Bool, false, _&&_}
-use mathlib.Core.List.{[]}
-use mathlib.Core.Logic.{inl, ⊎-elim}
 use mathlib.Core.Path.{_≡_, refl, ap, subst}
 use Prim.Native.Nat.{ℕ, _<_}
 use native.Mathlib.Omega.{arith}
 use lib.Dec.{T}
 use lib.Ieee.{Float}
-use Rattle.fifo.specs.Machine.{Net, passing, takes-of}
-use Rattle.fifo.proofs.Lists.{passing-in, empty-or-not}
+use Rattle.fifo.specs.Machine.{Net, takes-of}
+use Rattle.fifo.proofs.Ranges.{passing-none}
 use Rattle.rules.specs.declared.BarrierDiagonals.{BarrierDiagonals}
 use Rattle.rules.specs.Sizes.{Grid, count}
 use Rattle.rules.specs.Distances.{target, both-data, plain, with-obstacles, travel}
@@ -49,14 +47,10 @@ unfolding closest-by-time
 no-targets-by-time targets times values limit none = none-start-none-taken (closest-by-time targets times values limit) none
 
 -- In 7 and 8 no search is made.
-nothing-passes : (test : ℕ → Bool) (n : ℕ) → None test n → passing test 0 n ≡ []
-nothing-passes test n none =
-    ⊎-elim (λ e. e) (λ (c, cells, e). let p = passing-in test 0 n c (rw e (inl refl)) in absurd (subst T (none c (omega (arith, p .1))) (p .2))) (empty-or-not (passing test 0 n))
-
 pub no-targets-7 : (mask : Grid ℕ) (times : Grid Float) → None (target mask) (count (mask .size)) → total-takes (runs-7 mask times) ≡ 0
 unfolding runs-7 total-takes
-no-targets-7 mask times none = rw (nothing-passes (target mask) (count (mask .size)) none) refl
+no-targets-7 mask times none = rw (passing-none (target mask) 0 (count (mask .size)) (λ c low high. none c (omega arith))) refl
 
 pub no-targets-8 : (times amounts : Grid Float) (budget : Float) → None (counts amounts) (count (times .size)) → total-takes (runs-8 times amounts budget) ≡ 0
 unfolding runs-8 total-takes
-no-targets-8 times amounts budget none = rw (nothing-passes (counts amounts) (count (times .size)) none) refl
+no-targets-8 times amounts budget none = rw (passing-none (counts amounts) 0 (count (times .size)) (λ c low high. none c (omega arith))) refl

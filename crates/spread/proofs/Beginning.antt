@@ -12,6 +12,7 @@ use Rattle.cells.specs.Ring.{NewRing}
 use Rattle.cells.specs.declared.ring.Ring.{Ring}
 use Rattle.fifo.specs.Machine.{table, passing, initial}
 use Rattle.fifo.proofs.Lists.{same-or-not, passing-last}
+use Rattle.fifo.proofs.Ranges.{table-same, passing-none}
 use Rattle.rules.specs.declared.BarrierDiagonals.{BarrierDiagonals}
 use Rattle.rules.specs.Numbers.{infinity, whole}
 use Rattle.rules.specs.Sizes.{count}
@@ -24,7 +25,7 @@ use Rattle.spread.specs.Nets.{carries, reads-targets, reads-times, label
 use Rattle.spread.specs.Buffers.{Buffers, buffers, Good, Holds, carried-on}
 use Rattle.spread.specs.First.{net-on, FirstOf, FirstFrom}
 use Rattle.spread.specs.Begin.{Lengths, Begun, BeginsCell, BeganCell, BeganTo, Begins, BeginsEach}
-use Rattle.spread.proofs.Labels.{held, held-here, held-elsewhere, length-carried-on, not-carried-on, table-same}
+use Rattle.spread.proofs.Labels.{held, held-here, held-elsewhere, length-carried-on, not-carried-on}
 use Rattle.spread.proofs.Lengths.{carried-length-kept}
 use Rattle.spread.proofs.Rules.{cells-are}
 use Rattle.spread.proofs.Firsts.{plain-first, obstacles-first, half-sum-first, closest-first, by-time-first}
@@ -142,10 +143,6 @@ module _
 
 -- ---- all cells
 
-passing-none : (test : ℕ → Bool) → passing test 0 0 ≡ []
-unfolding passing
-passing-none test = refl
-
 module _ {search : Search} {targets : List ℕ} {times values distances carried : List Float} {marks queue : List ℕ} (lengths : Lengths search distances carried marks queue) where
   -- Before the first cell nothing is asked of the buffers.
   pub none-begun : {ring : Ring} → NewRing ring → BeganTo search targets times values 0 carried (buffers distances carried marks queue ring)
@@ -161,7 +158,7 @@ module _ {search : Search} {targets : List ℕ} {times values distances carried 
         marked = λ c below. absurd (omega arith);
       };
       labels = λ obstacles c below. absurd (omega arith);
-      waiting = λ obstacles. new .empty queue ∙ sym (passing-none (net-on search targets obstacles times values .start));
+      waiting = λ obstacles. new .empty queue ∙ sym (passing-none (net-on search targets obstacles times values .start) 0 0 (λ c low high. absurd (omega arith)));
     };
     kept = λ no-value. refl;
   }

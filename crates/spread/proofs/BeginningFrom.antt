@@ -3,7 +3,7 @@ use mathlib.Core.Bool.{Bool, true, false, not, cond, _&&_}
 use mathlib.Core.List.{List, [], _∷_}
 use mathlib.Core.Logic.{⊎-elim}
 use mathlib.Core.Path.{_≡_, refl, sym, ap, _∙_, subst}
-use Prim.Native.Nat.{ℕ, zero, suc, _+_, _≤_, _<_}
+use Prim.Native.Nat.{ℕ, suc, _≤_, _<_}
 use native.Mathlib.Omega.{arith}
 use borrow.Author.Tests.{eq-eqb, ne-eqb}
 use lib.Dec.{eqb}
@@ -16,6 +16,7 @@ use Rattle.cells.specs.Ring.{NewRing}
 use Rattle.cells.specs.declared.ring.Ring.{Ring}
 use Rattle.fifo.specs.Machine.{among, passing, joined}
 use Rattle.fifo.proofs.Lists.{same-or-not}
+use Rattle.fifo.proofs.Ranges.{passing-same, passing-none, passing-one}
 use Rattle.rules.specs.Numbers.{infinity}
 use Rattle.rules.specs.Sizes.{count}
 use Rattle.rules.specs.Sums.{from-mask-cell, from-amount}
@@ -28,36 +29,6 @@ use Rattle.spread.specs.Waiting.{Waiting, Joining, Joined}
 use Rattle.spread.specs.Buffers.{buffers}
 use Rattle.spread.specs.First.{net-on}
 use Rattle.spread.specs.Begin.{BeganTo, Begins, BeginsFrom, BeganFrom}
-
--- ---- cells that pass a test
-
-passing-same : (f g : ℕ → Bool) → ((c : ℕ) → f c ≡ g c) → (i k : ℕ) → passing f i k ≡ passing g i k
-unfolding passing
-passing-same f g same i zero = refl
-passing-same f g same i (suc k) = rw (same i) (ap (λ rest. cond (g i) (i ∷ rest) rest) (passing-same f g same (suc i) k))
-
-passing-none : (test : ℕ → Bool) (i k : ℕ) → ((c : ℕ) → i ≤ c → c < i + k → test c ≡ false) → passing test i k ≡ []
-unfolding passing
-passing-none test i zero fails = refl
-passing-none test i (suc k) fails =
-    rw (fails i (omega arith) (omega arith)) (passing-none test (suc i) k (λ c low high. fails c (omega arith) (omega arith)))
-
--- Where no other cell passes, one does alone, or none.
-passing-one :
-    (test : ℕ → Bool) (o i k : ℕ) → i ≤ o → o < i + k → ((c : ℕ) → (c ≡ o → ⊥) → test c ≡ false)
-    → passing test i k ≡ cond (test o) (o ∷ []) []
-unfolding passing
-passing-one test o i zero low high others = absurd (omega arith)
-passing-one test o i (suc k) low high others =
-    ⊎-elim here (λ other. later other (passing-one test o (suc i) k (omega (arith, other)) (omega arith) others)) (same-or-not i o)
-  where
-    here : i ≡ o → passing test i (suc k) ≡ cond (test o) (o ∷ []) []
-    here same =
-        ap (λ rest. cond (test i) (i ∷ rest) rest) (passing-none test (suc i) k (λ c above below. others c (λ p. omega arith)))
-        ∙ ap (λ c. cond (test c) (c ∷ []) []) same
-
-    later : (i ≡ o → ⊥) → passing test (suc i) k ≡ cond (test o) (o ∷ []) [] → passing test i (suc k) ≡ cond (test o) (o ∷ []) []
-    later other rest = rw (others i other) rest
 
 -- ---- the one cell
 

@@ -1,15 +1,14 @@
 -- The labels that two buffers hold: one read, one stored. Assumes nothing.
 use mathlib.Core.Bool.{Bool, true, false, cond, false≢true}
-use mathlib.Core.List.{List, _∷_}
+use mathlib.Core.List.{List}
 use mathlib.Core.Path.{_≡_, refl, sym, ap, _∙_}
-use Prim.Native.Nat.{ℕ, zero, suc, _+_, _≤_, _<_}
-use native.Mathlib.Nat.{zero-add, add-zero, add-suc, suc-add}
-use native.Mathlib.Omega.{arith}
+use Prim.Native.Nat.{ℕ, _<_}
+use native.Mathlib.Nat.{zero-add}
 use lib.Ieee.{Float, nan}
 use lib.ListN.{length, getD, set, length-set}
 use lib.Seq.{getD-set-same, getD-set-other}
 use Rattle.fifo.specs.Machine.{Net, State, table, label}
-use Rattle.fifo.proofs.Lists.{length-table, getD-table}
+use Rattle.fifo.proofs.Ranges.{length-table, getD-table, table-set}
 use Rattle.fifo.proofs.Induction.{label-getD}
 use Rattle.rules.specs.Sizes.{count}
 use Rattle.rules.specs.Values.{Carried}
@@ -17,26 +16,6 @@ use Rattle.spread.specs.declared.search.Search.{Search}
 use Rattle.spread.specs.Nets.{carries, labels-of}
 use Rattle.spread.specs.Steps.{labelled}
 use Rattle.spread.specs.Buffers.{Buffers, Holds, carried-on}
-
--- ---- tables
-
-pub table-same : {L : Type 0} (f g : ℕ → L) (i k : ℕ) → ((c : ℕ) → i ≤ c → c < i + k → f c ≡ g c) → table f i k ≡ table g i k
-unfolding table
-table-same f g i zero same = refl
-table-same f g i (suc k) same =
-    rw (same i (omega arith) (omega arith)) (ap (λ l. g i ∷ l) (table-same f g (suc i) k (λ c low high. same c (omega arith) (omega arith))))
-
--- A table of a function that differs at one number is the other table with that value stored.
-table-set :
-    {L : Type 0} (f g : ℕ → L) (i k v : ℕ) → v < k → ((c : ℕ) → (c ≡ i + v → ⊥) → g c ≡ f c)
-    → table g i k ≡ set (table f i k) v (g (i + v))
-unfolding table
-table-set f g i zero v inside same = absurd (omega arith)
-table-set f g i (suc k) zero inside same =
-    rw add-zero (ap (λ l. g i ∷ l) (table-same g f (suc i) k (λ c low high. same c (λ p. omega arith))))
-table-set f g i (suc k) (suc v) inside same =
-    rw (same i (λ p. omega arith), add-suc, ← suc-add)
-    (ap (λ l. f i ∷ l) (table-set f g (suc i) k v (omega arith) (λ c other. same c (λ p. other (omega arith)))))
 
 -- ---- the buffer of values
 
