@@ -51,7 +51,7 @@ pub extern "C" fn haul_sum_within_travel_distance(
         rows: value_rows,
         cols: value_columns,
     };
-    let include = is_yes(with_adjacent);
+    let include_adjacent = is_yes(with_adjacent);
     let answered = sum_within_travel_distance(
         size,
         mask,
@@ -60,7 +60,7 @@ pub extern "C" fn haul_sum_within_travel_distance(
         values_size,
         values,
         limit,
-        include,
+        include_adjacent,
         answer,
         distances,
         marks,

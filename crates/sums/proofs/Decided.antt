@@ -36,13 +36,13 @@ told-past passes passes found answer t e = (refl, cc)
 told-past passes (stops refusal) found answer t e = never cc
 told-past (stops refusal) second found answer t e = never cc
 
-module _ (mask-size : Size) (mask : List ℕ) (times-size : Size) (times : List Float) (values-size : Size) (values : List Float) (limit : Float) (include : Bool) where
+module _ (mask-size : Size) (mask : List ℕ) (times-size : Size) (times : List Float) (values-size : Size) (values : List Float) (limit : Float) (include-adjacent : Bool) where
   pub sum-within-decided :
       {r s : Answer} {answer answer₁ answer₂ distances distances₁ distances₂ : List Float}
       {marks marks₁ marks₂ listed listed₁ listed₂ adjacent adjacent₁ adjacent₂ queue queue₁ queue₂ : List ℕ}
-      → SumWithinTravelDistance mask-size mask times-size times values-size values limit include
+      → SumWithinTravelDistance mask-size mask times-size times values-size values limit include-adjacent
       (slice answer answer₁) (slice distances distances₁) (slice marks marks₁) (slice listed listed₁) (slice adjacent adjacent₁) (slice queue queue₁) r
-      → SumWithinTravelDistance mask-size mask times-size times values-size values limit include
+      → SumWithinTravelDistance mask-size mask times-size times values-size values limit include-adjacent
       (slice answer answer₂) (slice distances distances₂) (slice marks marks₂) (slice listed listed₂) (slice adjacent adjacent₂) (slice queue queue₂) s
       → SameSums r s answer₁ answer₂ distances₁ distances₂ marks₁ marks₂ listed₁ listed₂ adjacent₁ adjacent₂ queue₁ queue₂
   sum-within-decided p q = record {
@@ -55,7 +55,7 @@ module _ (mask-size : Size) (mask : List ℕ) (times-size : Size) (times : List 
   pub sum-within-squares :
       (answer distances : Slice Float) (marks listed adjacent queue : Slice ℕ) (r : Answer) (t : ℕ)
       → ((c : ℕ) → T (fits binary32 (getD times c nan)))
-      → SumWithinTravelDistance mask-size mask times-size times values-size values limit include answer distances marks listed adjacent queue r → told r ≡ takes t
+      → SumWithinTravelDistance mask-size mask times-size times values-size values limit include-adjacent answer distances marks listed adjacent queue r → told r ≡ takes t
       → WithinSquares (runs-7 (grid mask-size mask) (grid times-size times)) (from-mask-cell (grid times-size times)) t
   unfolding outcome-7 from-mask-cell
   sum-within-squares answer distances marks listed adjacent queue r t times-held promise said =
@@ -64,7 +64,7 @@ module _ (mask-size : Size) (mask : List ℕ) (times-size : Size) (times : List 
       let of-values = grid values-size values in
       let runs = runs-7 of-mask of-times in
       let (passed, same) = told-past (refusals-7 of-mask of-times of-values limit (lengths-7 answer distances marks listed adjacent queue)) (refusal-7 of-times limit runs)
-      (total-takes runs) (sums of-times of-values limit include runs) t (sym said ∙ promise .promised .says) in
+      (total-takes runs) (sums of-times of-values limit include-adjacent runs) t (sym said ∙ promise .promised .says) in
       let (mask-bounds, bounds, number, above, none-negative) = accepted-7 of-mask of-times of-values limit (lengths-7 answer distances marks listed adjacent queue) passed in
       let times-good : AcceptedTimes of-times = record { held = times-held; none-negative = none-negative } in
       record {

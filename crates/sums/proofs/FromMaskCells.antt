@@ -102,13 +102,13 @@ module _ (size : Size) (times : List Float) (start : ℕ) (limit : Float) where
 -- ---- the sum
 
 module _ {size : Size} {values distances : List Float} {cells : List ℕ} {limit : Float} {alone : Float} where
-  pub sum-without : alone ≡ add-values values plus-zero cells → {met : List ℕ} {include : Bool} → include ≡ false → length met ≡ count size → SumReached size values distances cells limit include met alone
+  pub sum-without : alone ≡ add-values values plus-zero cells → {met : List ℕ} {include-adjacent : Bool} → include-adjacent ≡ false → length met ≡ count size → SumReached size values distances cells limit include-adjacent met alone
   unfolding sum-listed
   sum-without sum is long = record { met-length = long; sum-is = sum ∙ sym (ap (λ b. sum-listed size values distances limit b cells) is) }
 
   pub sum-with :
-      alone ≡ add-values values plus-zero cells → {met′ : List ℕ} {include : Bool} → include ≡ true → {sum : Float} → AddedAdjacent size values distances limit alone cells met′ sum
-      → SumReached size values distances cells limit include met′ sum
+      alone ≡ add-values values plus-zero cells → {met′ : List ℕ} {include-adjacent : Bool} → include-adjacent ≡ true → {sum : Float} → AddedAdjacent size values distances limit alone cells met′ sum
+      → SumReached size values distances cells limit include-adjacent met′ sum
   unfolding sum-listed
   sum-with reached is added = record {
     met-length = added .marks .long;
@@ -141,11 +141,11 @@ module _
 
     -- The listed cells are the rules' list, and the distances are the labels at the end.
     pub summed-from :
-        {limit : Float} {include over : Bool} {sum : Float} {met₂ : List ℕ} → over ≡ any (above-budget distances₁ limit) (take (r .count) listed₁)
-        → SumReached size values distances₁ (take (r .count) listed₁) limit include met₂ sum
-        → SummedFrom size times values limit include start distances₁ marks₁ listed₁ met₂ queue₁ (record { takes = r .takes; over = over; sum = sum })
+        {limit : Float} {include-adjacent over : Bool} {sum : Float} {met₂ : List ℕ} → over ≡ any (above-budget distances₁ limit) (take (r .count) listed₁)
+        → SumReached size values distances₁ (take (r .count) listed₁) limit include-adjacent met₂ sum
+        → SummedFrom size times values limit include-adjacent start distances₁ marks₁ listed₁ met₂ queue₁ (record { takes = r .takes; over = over; sum = sum })
     unfolding sum-of
-    summed-from {limit} {include} over-is summed =
+    summed-from {limit} {include-adjacent} over-is summed =
         let run = run-from size times start in
         let cells : take (r .count) listed₁ ≡ listed (grid size times) run = reached .lists .first in
         let labels = reached .labels in
@@ -161,6 +161,6 @@ module _
           over-is = over-is ∙ ap (λ l. any (above-budget distances₁ limit) l) cells ∙ ap (λ d. any (above-budget d limit) (listed (grid size times) run)) labels;
           sum-is =
               summed .sum-is
-              ∙ ap (sum-listed size values distances₁ limit include) cells
-              ∙ ap (λ d. sum-listed size values d limit include (listed (grid size times) run)) labels;
+              ∙ ap (sum-listed size values distances₁ limit include-adjacent) cells
+              ∙ ap (λ d. sum-listed size values d limit include-adjacent (listed (grid size times) run)) labels;
         }

@@ -72,40 +72,40 @@ both-chosen false x e = absurd (false≢true e)
 -- ---- one cell
 
 module _
-    {size : Size} {mask : List ℕ} {times values : List Float} {limit : Float} {include : Bool} {cell : ℕ} {answer : List Float}
+    {size : Size} {mask : List ℕ} {times values : List Float} {limit : Float} {include-adjacent : Bool} {cell : ℕ} {answer : List Float}
     (answer-long : length answer ≡ count size)
   where
     pub mask-searched :
         {distances′ : List Float} {marks′ listed′ met′ queue′ : List ℕ} {r : MaskSum} → target (grid size mask) cell ≡ true
-        → SummedFrom size times values limit include cell distances′ marks′ listed′ met′ queue′ r
-        → SearchedCell size mask times values limit include cell answer (set answer cell (r .sum)) distances′ marks′ listed′ met′ queue′ (record { takes = r .takes; over = r .over })
+        → SummedFrom size times values limit include-adjacent cell distances′ marks′ listed′ met′ queue′ r
+        → SearchedCell size mask times values limit include-adjacent cell answer (set answer cell (r .sum)) distances′ marks′ listed′ met′ queue′ (record { takes = r .takes; over = r .over })
     mask-searched {r = r} is found = record {
       answer-length = length-set answer cell (r .sum) ∙ answer-long;
       lengths = found .lengths;
       answered =
           ap (set answer cell) (found .sum-is)
-          ∙ ap (λ b. cond b (set answer cell (sum-of (grid size times) (grid size values) limit include (run-from size times cell))) answer) (sym is);
+          ∙ ap (λ b. cond b (set answer cell (sum-of (grid size times) (grid size values) limit include-adjacent (run-from size times cell))) answer) (sym is);
       counted = found .counted ∙ ap (λ b. cond b (run-from size times cell .takes) 0) (sym is);
       over-is = found .over-is ∙ ap (λ b. cond b (over-budget (grid size times) limit (run-from size times cell) .0) false) (sym is);
     }
 
     pub mask-passed :
         {distances : List Float} {marks listed met queue : List ℕ} → target (grid size mask) cell ≡ false → Lengths size distances marks listed met queue
-        → SearchedCell size mask times values limit include cell answer answer distances marks listed met queue (record { takes = 0; over = false })
+        → SearchedCell size mask times values limit include-adjacent cell answer answer distances marks listed met queue (record { takes = 0; over = false })
     mask-passed is lengths = record {
       answer-length = answer-long;
       lengths = lengths;
-      answered = ap (λ b. cond b (set answer cell (sum-of (grid size times) (grid size values) limit include (run-from size times cell))) answer) (sym is);
+      answered = ap (λ b. cond b (set answer cell (sum-of (grid size times) (grid size values) limit include-adjacent (run-from size times cell))) answer) (sym is);
       counted = ap (λ b. cond b (run-from size times cell .takes) 0) (sym is);
       over-is = ap (λ b. cond b (over-budget (grid size times) limit (run-from size times cell) .0) false) (sym is);
     }
 
 -- ---- all cells
 
-module _ (size : Size) (mask : List ℕ) (times values : List Float) (limit : Float) (include : Bool) where
+module _ (size : Size) (mask : List ℕ) (times values : List Float) (limit : Float) (include-adjacent : Bool) where
   -- What one run answers.
   abbrev pub answer-run : List Float → Run → List Float
-  answer-run answer run = set answer (run .from) (sum-of (grid size times) (grid size values) limit include run)
+  answer-run answer run = set answer (run .from) (sum-of (grid size times) (grid size values) limit include-adjacent run)
 
   abbrev pub mask-runs : ℕ → List Run
   mask-runs i = runs-to (target (grid size mask)) (from-mask-cell (grid size times)) i
@@ -117,20 +117,20 @@ module _ (size : Size) (mask : List ℕ) (times values : List Float) (limit : Fl
     pub counted : total ≡ summed-takes 0 (mask-runs i)
     pub none-over : refusal-7 (grid size times) limit (mask-runs i) ≡ passes
 
-module _ {size : Size} {mask : List ℕ} {times values : List Float} {limit : Float} {include : Bool} where
+module _ {size : Size} {mask : List ℕ} {times values : List Float} {limit : Float} {include-adjacent : Bool} where
   pub none-searched :
       {answer distances : List Float} {marks listed met queue : List ℕ} → SearchingMask size mask times values answer distances marks listed met queue
-      → MaskTo size mask times values limit include 0 answer distances marks listed met queue 0
+      → MaskTo size mask times values limit include-adjacent 0 answer distances marks listed met queue 0
   unfolding passing refusal-7 first-that-holds
   none-searched asked = record { given = asked .given; answered = asked .none-answered; counted = refl; none-over = refl }
 
   module _
       {i : ℕ} {answer distances : List Float} {marks listed met queue : List ℕ} {total : ℕ}
-      (at : MaskTo size mask times values limit include i answer distances marks listed met queue total)
+      (at : MaskTo size mask times values limit include-adjacent i answer distances marks listed met queue total)
       {answer′ distances′ : List Float} {marks′ listed′ met′ queue′ : List ℕ} {r : Searched}
-      (found : SearchedCell size mask times values limit include i answer answer′ distances′ marks′ listed′ met′ queue′ r)
+      (found : SearchedCell size mask times values limit include-adjacent i answer answer′ distances′ marks′ listed′ met′ queue′ r)
     where
-      pub next-searched : r .over ≡ false → MaskTo size mask times values limit include (i + 1) answer′ distances′ marks′ listed′ met′ queue′ (total + r .takes)
+      pub next-searched : r .over ≡ false → MaskTo size mask times values limit include-adjacent (i + 1) answer′ distances′ marks′ listed′ met′ queue′ (total + r .takes)
       next-searched within = record {
         given = record {
           ways = at .given .ways;
@@ -141,8 +141,8 @@ module _ {size : Size} {mask : List ℕ} {times values : List Float} {limit : Fl
         };
         answered =
             found .answered
-            ∙ ap (λ l. cond (target (grid size mask) i) (answer-run size mask times values limit include l (run-from size times i)) l) (at .answered)
-            ∙ sym (fold-next (target (grid size mask)) (from-mask-cell (grid size times)) (answer-run size mask times values limit include) (replicate (count size) plus-zero) i);
+            ∙ ap (λ l. cond (target (grid size mask) i) (answer-run size mask times values limit include-adjacent l (run-from size times i)) l) (at .answered)
+            ∙ sym (fold-next (target (grid size mask)) (from-mask-cell (grid size times)) (answer-run size mask times values limit include-adjacent) (replicate (count size) plus-zero) i);
         counted = total-next (target (grid size mask)) (from-mask-cell (grid size times)) i (at .counted) (found .counted);
         none-over = none-over-next (grid size times) limit (target (grid size mask)) i (at .none-over) (sym (found .over-is) ∙ within);
       }
@@ -151,29 +151,29 @@ module _ {size : Size} {mask : List ℕ} {times values : List Float} {limit : Fl
       takes-fit inside = total-fits (target (grid size mask)) (from-mask-cell (grid size times)) (at .given .ways) i inside (at .counted) (found .counted)
 
       -- The search from this cell is over the budget, those before it were not.
-      pub mask-over : i < count size → r .over ≡ true → SearchedMask size mask times values limit include answer′ distances′ marks′ listed′ met′ queue′ (Over i)
+      pub mask-over : i < count size → r .over ≡ true → SearchedMask size mask times values limit include-adjacent answer′ distances′ marks′ listed′ met′ queue′ (Over i)
       unfolding mask-outcome runs-7
       mask-over inside over =
           let (selected, beyond) = both-chosen (target (grid size mask) i) (over-budget (grid size times) limit (run-from size times i) .0) (sym (found .over-is) ∙ over) in
           record {
             answer-length = found .answer-length;
             lengths = found .lengths;
-            outcome = sym (ap (λ (j : Judged). unless j (λ search. accepted (total-takes (mask-runs size mask times values limit include (count size))) (sums (grid size times) (grid size values) limit include (mask-runs size mask times values limit include (count size)))))
+            outcome = sym (ap (λ (j : Judged). unless j (λ search. accepted (total-takes (mask-runs size mask times values limit include-adjacent (count size))) (sums (grid size times) (grid size values) limit include-adjacent (mask-runs size mask times values limit include-adjacent (count size)))))
                 (over-at (grid size times) limit (target (grid size mask)) i (count size) inside (at .none-over) selected beyond));
           }
 
   pub mask-all :
       {answer distances : List Float} {marks listed met queue : List ℕ} {total : ℕ}
-      → MaskTo size mask times values limit include (count size) answer distances marks listed met queue total
-      → SearchedMask size mask times values limit include answer distances marks listed met queue (All total)
+      → MaskTo size mask times values limit include-adjacent (count size) answer distances marks listed met queue total
+      → SearchedMask size mask times values limit include-adjacent answer distances marks listed met queue (All total)
   unfolding mask-outcome runs-7 sums
   mask-all {answer = answer} at =
-      let all = mask-runs size mask times values limit include (count size) in
+      let all = mask-runs size mask times values limit include-adjacent (count size) in
       record {
         answer-length = at .given .answer-length;
         lengths = at .given .lengths;
         outcome =
             ap (λ t. accepted t answer) (at .counted ∙ total-of-runs (target (grid size mask)) (from-mask-cell (grid size times)) (at .given .ways))
             ∙ ap (accepted (total-takes all)) (at .answered)
-            ∙ sym (ap (λ (j : Judged). unless j (λ search. accepted (total-takes all) (sums (grid size times) (grid size values) limit include all))) (at .none-over));
+            ∙ sym (ap (λ (j : Judged). unless j (λ search. accepted (total-takes all) (sums (grid size times) (grid size values) limit include-adjacent all))) (at .none-over));
       }

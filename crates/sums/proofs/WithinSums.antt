@@ -77,13 +77,13 @@ mask-searching {answer = answer} given zeroed = record {
 -- ---- after it
 
 pub mask-promised :
-    {size : Size} {mask : List ℕ} {times values : List Float} {limit : Float} {include : Bool} {answer distances : List Float} {marks listed met queue : List ℕ}
+    {size : Size} {mask : List ℕ} {times values : List Float} {limit : Float} {include-adjacent : Bool} {answer distances : List Float} {marks listed met queue : List ℕ}
     {answer₁ distances₁ answer₂ distances₂ : List Float} {marks₁ listed₁ met₁ queue₁ marks₂ listed₂ met₂ queue₂ : List ℕ} {found : Found} {r : Answer}
     → Given size mask times values answer distances marks listed met queue
-    → SearchedMask size mask times values limit include answer₁ distances₁ marks₁ listed₁ met₁ queue₁ found
+    → SearchedMask size mask times values limit include-adjacent answer₁ distances₁ marks₁ listed₁ met₁ queue₁ found
     → distances₂ ≡ replicate (length distances₁) plus-zero → marks₂ ≡ replicate (length marks₁) 0 → listed₂ ≡ replicate (length listed₁) 0
     → met₂ ≡ replicate (length met₁) 0 → queue₂ ≡ replicate (length queue₁) 0 → LeftAnswer found answer₁ answer₂ r
-    → PromisedSums (mask-outcome size mask times values limit include) r (slice answer answer₂) (slice distances distances₂) (slice marks marks₂) (slice listed listed₂) (slice met met₂) (slice queue queue₂)
+    → PromisedSums (mask-outcome size mask times values limit include-adjacent) r (slice answer answer₂) (slice distances distances₂) (slice marks marks₂) (slice listed listed₂) (slice met met₂) (slice queue queue₂)
 mask-promised {answer = answer} {distances} {marks} {listed} {met} {queue} {answer₁} {answer₂ = answer₂} {distances₂} {marks₂ = marks₂} {listed₂} {met₂} {queue₂} {found} {r}
     given searched distances-zeroed marks-zeroed listed-zeroed met-zeroed queue-zeroed left =
     let before = given .lengths in
@@ -152,11 +152,11 @@ module _ (size : Size) (mask : List ℕ) (times-size : Size) (times : List Float
 
   -- What the search answers, in the rules' words.
   pub mask-outcome-is :
-      (include : Bool) (lent : Lent) → refusals-7 (grid size mask) (grid times-size times) (grid values-size values) limit lent ≡ passes
-      → mask-outcome size mask times values limit include
+      (include-adjacent : Bool) (lent : Lent) → refusals-7 (grid size mask) (grid times-size times) (grid values-size values) limit lent ≡ passes
+      → mask-outcome size mask times values limit include-adjacent
       ≡ (let runs = runs-7 (grid size mask) (grid times-size times) in
-      unless (refusal-7 (grid times-size times) limit runs) (λ search. accepted (total-takes runs) (sums (grid times-size times) (grid values-size values) limit include runs)))
+      unless (refusal-7 (grid times-size times) limit runs) (λ search. accepted (total-takes runs) (sums (grid times-size times) (grid values-size values) limit include-adjacent runs)))
   unfolding mask-outcome refusals-7
-  mask-outcome-is include lent pass =
+  mask-outcome-is include-adjacent lent pass =
       let known = shaped _ _ _ _ _ (record { is = sym pass }) in
       rw (known .alike .0, known .alike .1 .0)

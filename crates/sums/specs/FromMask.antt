@@ -39,9 +39,9 @@ pub record ReachedFrom (size : Size) (times : List Float) (start : ℕ) (distanc
   pub counted : r .takes ≡ run-from size times start .takes
 
 -- The sum of the listed cells, and of the cells beside them if they are included.
-pub record SumReached (size : Size) (values distances : List Float) (cells : List ℕ) (limit : Float) (include : Bool) (met′ : List ℕ) (r : Float) : Type 0 where
+pub record SumReached (size : Size) (values distances : List Float) (cells : List ℕ) (limit : Float) (include-adjacent : Bool) (met′ : List ℕ) (r : Float) : Type 0 where
   pub met-length : length met′ ≡ count size
-  pub sum-is : r ≡ sum-listed size values distances limit include cells
+  pub sum-is : r ≡ sum-listed size values distances limit include-adjacent cells
 
 -- The values are lent too.
 pub record Summing (size : Size) (times values : List Float) (start : ℕ) (distances : List Float) (marks listed met queue : List ℕ) : Type 0 where
@@ -50,9 +50,9 @@ pub record Summing (size : Size) (times values : List Float) (start : ℕ) (dist
 
 -- The takes, whether refusal 7 applies, and the sum are those of the rules' run.
 pub record SummedFrom
-    (size : Size) (times values : List Float) (limit : Float) (include : Bool) (start : ℕ) (distances′ : List Float) (marks′ listed′ met′ queue′ : List ℕ) (r : MaskSum)
+    (size : Size) (times values : List Float) (limit : Float) (include-adjacent : Bool) (start : ℕ) (distances′ : List Float) (marks′ listed′ met′ queue′ : List ℕ) (r : MaskSum)
     : Type 0 where
   pub lengths : Lengths size distances′ marks′ listed′ met′ queue′
   pub counted : r .takes ≡ run-from size times start .takes
   pub over-is : r .over ≡ over-budget (grid size times) limit (run-from size times start) .0
-  pub sum-is : r .sum ≡ sum-of (grid size times) (grid size values) limit include (run-from size times start)
+  pub sum-is : r .sum ≡ sum-of (grid size times) (grid size values) limit include-adjacent (run-from size times start)

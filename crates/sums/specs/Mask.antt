@@ -32,14 +32,14 @@ pub record SearchingCell (size : Size) (mask : List ℕ) (times values : List Fl
 
 -- A cell that the mask selects has its sum for an answer; nothing is done for any other.
 pub record SearchedCell
-    (size : Size) (mask : List ℕ) (times values : List Float) (limit : Float) (include : Bool) (cell : ℕ) (answer answer′ distances′ : List Float)
+    (size : Size) (mask : List ℕ) (times values : List Float) (limit : Float) (include-adjacent : Bool) (cell : ℕ) (answer answer′ distances′ : List Float)
     (marks′ listed′ met′ queue′ : List ℕ) (r : Searched)
     : Type 0 where
   pub answer-length : length answer′ ≡ count size
   pub lengths : Lengths size distances′ marks′ listed′ met′ queue′
   pub answered :
       answer′
-      ≡ cond (target (grid size mask) cell) (set answer cell (sum-of (grid size times) (grid size values) limit include (run-from size times cell))) answer
+      ≡ cond (target (grid size mask) cell) (set answer cell (sum-of (grid size times) (grid size values) limit include-adjacent (run-from size times cell))) answer
   pub counted : r .takes ≡ cond (target (grid size mask) cell) (run-from size times cell .takes) 0
   pub over-is : r .over ≡ cond (target (grid size mask) cell) (over-budget (grid size times) limit (run-from size times cell) .0) false
 
@@ -50,9 +50,9 @@ pub record SearchingMask (size : Size) (mask : List ℕ) (times values answer di
 
 -- What the rules answer once no test refuses: refusal 7, or the sums.
 unfoldable pub mask-outcome : Size → List ℕ → List Float → List Float → Float → Bool → Outcome
-mask-outcome size mask times values limit include =
+mask-outcome size mask times values limit include-adjacent =
     let runs = runs-7 (grid size mask) (grid size times) in
-    unless (refusal-7 (grid size times) limit runs) (λ search. accepted (total-takes runs) (sums (grid size times) (grid size values) limit include runs))
+    unless (refusal-7 (grid size times) limit runs) (λ search. accepted (total-takes runs) (sums (grid size times) (grid size values) limit include-adjacent runs))
 
 -- What the code found says the same: refusal 7 with the mask cell's index, or the takes and the answer.
 abbrev pub found-as : Found → List Float → Outcome
@@ -60,12 +60,12 @@ found-as (All takes) answer = accepted takes answer
 found-as (Over cell) answer = refused (number-at 7 cell)
 
 pub record SearchedMask
-    (size : Size) (mask : List ℕ) (times values : List Float) (limit : Float) (include : Bool) (answer′ distances′ : List Float)
+    (size : Size) (mask : List ℕ) (times values : List Float) (limit : Float) (include-adjacent : Bool) (answer′ distances′ : List Float)
     (marks′ listed′ met′ queue′ : List ℕ) (r : Found)
     : Type 0 where
   pub answer-length : length answer′ ≡ count size
   pub lengths : Lengths size distances′ marks′ listed′ met′ queue′
-  pub outcome : found-as r answer′ ≡ mask-outcome size mask times values limit include
+  pub outcome : found-as r answer′ ≡ mask-outcome size mask times values limit include-adjacent
 
 -- The call's answer, and the answer slice as it is left.
 pub record LeftAnswer (found : Found) (answer answer′ : List Float) (r : Answer) : Type 0 where

@@ -31,8 +31,8 @@ lengths-7 answer distances marks listed adjacent queue =
     lent (length (answer .before) ∷ length (distances .before) ∷ length (marks .before) ∷ length (listed .before) ∷ length (adjacent .before) ∷ []) (length (queue .before))
 
 abbrev pub SumWithinTravelDistance : Size → List ℕ → Size → List Float → Size → List Float → Float → Bool → Slice Float → Slice Float → Slice ℕ → Slice ℕ → Slice ℕ → Slice ℕ → Answer → Type 0
-SumWithinTravelDistance mask-size mask times-size times values-size values limit include answer distances marks listed adjacent queue r =
-    PromisedSums (outcome-7 (grid mask-size mask) (grid times-size times) (grid values-size values) limit include (lengths-7 answer distances marks listed adjacent queue)) r answer distances marks listed adjacent queue
+SumWithinTravelDistance mask-size mask times-size times values-size values limit include-adjacent answer distances marks listed adjacent queue r =
+    PromisedSums (outcome-7 (grid mask-size mask) (grid times-size times) (grid values-size values) limit include-adjacent (lengths-7 answer distances marks listed adjacent queue)) r answer distances marks listed adjacent queue
 
 -- ---- 8: sum_targets_within_travel_distance
 
