@@ -1,14 +1,14 @@
 -- The machine taken apart, once: a label after a store, and what it takes to keep a property through a relaxation, a scan, a take and a run.
 use mathlib.Core.Bool.{true, false, cond}
 use mathlib.Core.List.{List, [], _∷_, _++_, append-nil, append-assoc}
-use mathlib.Core.Logic.{_⊎_, inl, inr, ⊎-elim}
+use mathlib.Core.Logic.{inl, inr, ⊎-elim}
 use mathlib.Core.Path.{_≡_, refl, sym, ap, _∙_, subst}
 use Prim.Native.Nat.{ℕ, zero, suc, _<_}
 use lib.ListN.{length, getD, set, length-set}
 use lib.Seq.{getD-set-same, getD-set-other}
 use Rattle.fifo.specs.Machine.{Net, State, joined, label, store, relax, scan, take, run-from, run, takes-from, takes, trace-from, trace}
 use Rattle.fifo.specs.Walk.{In}
-use Rattle.fifo.proofs.Lists.{by-test, same-or-not, joined-appends, getD-any}
+use Rattle.fifo.proofs.Lists.{by-test, joined-appends, getD-any, after-set}
 
 -- The state with ws waiting.
 abbrev pub awaiting : {L : Type 0} → List ℕ → State L → State L
@@ -28,11 +28,8 @@ module _ {L : Type 0} (net : Net L) where
   pub after-store :
       (Q : L → Type 0) (v : ℕ) (x : L) (s : State L) (c : ℕ) → v < length (s .labels)
       → (c ≡ v → Q x) → ((c ≡ v → ⊥) → Q (label net s c)) → Q (label net (store net v x s) c)
-  after-store Q v x s c inside new old = cases (same-or-not c v)
-    where
-      cases : (c ≡ v) ⊎ (c ≡ v → ⊥) → Q (label net (store net v x s) c)
-      cases (inl p) = subst (λ b. Q (label net (store net v x s) b)) (sym p) (rw label-stored (new p))
-      cases (inr other) = rw (label-unstored v x s c other) (old other)
+  unfolding label store
+  after-store Q v x s c = after-set Q (s .labels) v x (net .first c) c
 
   -- For a cell that has a label, the default that it is read with does not matter.
   pub label-getD : (s : State L) (v : ℕ) (x : L) → v < length (s .labels) → label net s v ≡ getD (s .labels) v x

@@ -10,6 +10,7 @@ use native.Mathlib.Omega.{arith}
 use borrow.Author.Tests.{eqb-true, eq-eqb, ne-eqb}
 use lib.Dec.{T, eqb}
 use lib.ListN.{length, getD, set}
+use lib.Seq.{getD-set-same, getD-set-other}
 use Rattle.fifo.specs.Machine.{among, joined, passing}
 use Rattle.fifo.specs.Walk.{In, NoDup}
 
@@ -50,6 +51,18 @@ pub getD-any : {A : Type 0} (l : List A) (i : ℕ) (x y : A) → i < length l �
 getD-any [] i x y inside = absurd (omega arith)
 getD-any (a ∷ l) zero x y inside = refl
 getD-any (a ∷ l) (suc i) x y inside = getD-any l i x y (omega arith)
+
+-- To prove something of what a list holds at a place once a value is set, prove it of that value and of what it held at the other places.
+pub after-set :
+    {A : Type 0} (Q : A → Type 0) (l : List A) (v : ℕ) (x d : A) (c : ℕ) → v < length l
+    → (c ≡ v → Q x) → ((c ≡ v → ⊥) → Q (getD l c d)) → Q (getD (set l v x) c d)
+after-set Q l v x d c inside new old = ⊎-elim here elsewhere (same-or-not c v)
+  where
+    here : c ≡ v → Q (getD (set l v x) c d)
+    here p = subst (λ b. Q (getD (set l v x) b d)) (sym p) (rw (getD-set-same l v x d inside) (new p))
+
+    elsewhere : (c ≡ v → ⊥) → Q (getD (set l v x) c d)
+    elsewhere other = rw (getD-set-other l v c x d other) (old other)
 
 -- A function over a list with one value set.
 pub map-set : {A B : Type 0} (g : A → B) (l : List A) (i : ℕ) (x : A) → map g (set l i x) ≡ set (map g l) i (g x)

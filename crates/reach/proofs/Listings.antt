@@ -8,9 +8,9 @@ use native.Mathlib.Numerals.{add-one}
 use borrow.Author.Tests.{ne-eqb}
 use lib.Dec.{eqb}
 use lib.ListN.{length, getD, take, set, replicate, length-set, length-append, length-replicate, getD-replicate}
-use lib.Seq.{getD-set-same, getD-set-other, take-suc-set}
+use lib.Seq.{take-suc-set}
 use Rattle.fifo.specs.Machine.{among, joined}
-use Rattle.fifo.proofs.Lists.{same-or-not, in-snoc, among-other, among-last, joined-waiting, joined-new, no-dup-joined, room-for-new}
+use Rattle.fifo.proofs.Lists.{after-set, in-snoc, among-other, among-last, joined-waiting, joined-new, no-dup-joined, room-for-new}
 use Rattle.rules.proofs.Tests.{opposite}
 use Rattle.reach.specs.Listing.{Met, Listing, Joining, Joined, Cells}
 use Rattle.reach.proofs.Reading.{in-take, take-few}
@@ -26,17 +26,10 @@ module _ {n : ℕ} {met cells : List ℕ} (marks : Met n met cells) where
   pub met-more : (v : ℕ) → v < n → Met n (set met v 1) (cells ++ v ∷ [])
   met-more v inside = record {
     long = length-set met v 1 ∙ marks .long;
-    told = λ c below. ⊎-elim (λ p. rw p at-v) (λ other. elsewhere c below other) (same-or-not c v);
+    told = λ c below.
+        after-set (λ m. eqb m 0 ≡ not (among c (cells ++ v ∷ []))) met v 1 0 c (rw (marks .long) inside) (λ p. rw p (ap not (sym (among-last v cells))))
+        (λ other. marks .told c below ∙ ap not (sym (among-other c v cells other)));
   }
-    where
-      at-v : eqb (getD (set met v 1) v 0) 0 ≡ not (among v (cells ++ v ∷ []))
-      at-v = ap (λ m. eqb m 0) (getD-set-same met v 1 0 (rw (marks .long) inside)) ∙ ap not (sym (among-last v cells))
-
-      elsewhere : (c : ℕ) → c < n → (c ≡ v → ⊥) → eqb (getD (set met v 1) c 0) 0 ≡ not (among c (cells ++ v ∷ []))
-      elsewhere c below other =
-          ap (λ m. eqb m 0) (getD-set-other met v c 1 0 other)
-          ∙ marks .told c below
-          ∙ ap not (sym (among-other c v cells other))
 
 -- ---- the list
 

@@ -1,7 +1,6 @@
 -- A search from one cell begins: every distance is the cap, every mark is cleared, and the one cell is set. Assumes nothing.
 use mathlib.Core.Bool.{Bool, true, false, not, cond, _&&_}
 use mathlib.Core.List.{List, [], _∷_}
-use mathlib.Core.Logic.{⊎-elim}
 use mathlib.Core.Path.{_≡_, refl, sym, ap, _∙_, subst}
 use Prim.Native.Nat.{ℕ, suc, _≤_, _<_}
 use native.Mathlib.Omega.{arith}
@@ -9,13 +8,12 @@ use borrow.Author.Tests.{eq-eqb, ne-eqb}
 use lib.Dec.{eqb}
 use lib.Ieee.{Float, nan, binary32, add}
 use lib.ListN.{length, getD, set, replicate, length-set, length-replicate, getD-replicate}
-use lib.Seq.{getD-set-same, getD-set-other}
 use Rattle.binary32.specs.Nodata.{nodata}
 use Rattle.binary32.specs.Numbers.{plus-zero, one}
 use Rattle.cells.specs.Ring.{NewRing}
 use Rattle.cells.specs.declared.ring.Ring.{Ring}
 use Rattle.fifo.specs.Machine.{among, passing, joined}
-use Rattle.fifo.proofs.Lists.{same-or-not}
+use Rattle.fifo.proofs.Lists.{after-set}
 use Rattle.fifo.proofs.Ranges.{passing-same, passing-none, passing-one}
 use Rattle.rules.specs.Numbers.{infinity}
 use Rattle.rules.specs.Sizes.{count}
@@ -75,15 +73,9 @@ module _
     other-fails c other = rw (ne-eqb c origin other)
 
     set-there : origin < length filled → (c : ℕ) → c < (length distances) → getD (set filled origin plus-zero) c nan ≡ cond (eqb c origin) plus-zero cap
-    set-there below c c-below = ⊎-elim here elsewhere (same-or-not c origin)
-      where
-        here : c ≡ origin → getD (set filled origin plus-zero) c nan ≡ cond (eqb c origin) plus-zero cap
-        here same = rw (eq-eqb c origin same, same) (getD-set-same filled origin plus-zero nan below)
-
-        elsewhere : (c ≡ origin → ⊥) → getD (set filled origin plus-zero) c nan ≡ cond (eqb c origin) plus-zero cap
-        elsewhere other =
-            rw (ne-eqb c origin other)
-            (getD-set-other filled origin c plus-zero nan other ∙ ap (λ l. getD l c nan) filled-is ∙ getD-replicate (length distances) c cap nan c-below)
+    set-there below c c-below =
+        after-set (λ d. d ≡ cond (eqb c origin) plus-zero cap) filled origin plus-zero nan c below (λ same. rw (eq-eqb c origin same))
+        (λ other. rw (ne-eqb c origin other) (ap (λ l. getD l c nan) filled-is ∙ getD-replicate (length distances) c cap nan c-below))
 
     origin-starts : {answer : Bool} → answer ≡ nodata (getD times origin nan) → starts-at origin times origin ≡ not answer
     origin-starts says = rw (eq-eqb origin origin refl) (ap not (sym says))

@@ -8,13 +8,12 @@ use native.Mathlib.Omega.{arith}
 use borrow.Author.Tests.{ne-eqb}
 use lib.Dec.{eqb}
 use lib.ListN.{length, getD, set, length-set}
-use lib.Seq.{getD-set-same, getD-set-other}
 use Rattle.cells.specs.Ring.{contents, HasRoom, Pushed, Took}
 use Rattle.cells.specs.declared.ring.Ring.{Ring}
 use Rattle.cells.specs.declared.ring.Taken.{Taken}
 use Rattle.fifo.specs.Machine.{among}
 use Rattle.fifo.specs.Walk.{In, NoDup}
-use Rattle.fifo.proofs.Lists.{same-or-not, in-snoc, joined-waiting, joined-new, no-dup-joined, not-among, among-other, among-tail, among-last, room-for-new}
+use Rattle.fifo.proofs.Lists.{after-set, in-snoc, joined-waiting, joined-new, no-dup-joined, not-among, among-other, among-tail, among-last, room-for-new}
 use Rattle.spread.specs.Waiting.{border, Waiting, Beginning, Began, Joining, Joined, TookFirst}
 
 -- ---- marks and ring
@@ -42,17 +41,10 @@ module _ {seen : ℕ} {marks queue : List ℕ} {ring : Ring} (waits : Waiting se
         in-slots = pushed .good;
         single = rw (pushed .added ∙ sym (joined-new v old out)) (no-dup-joined v old (waits .single));
         inside = λ c i. ⊎-elim (λ j. let in-seen = waits .inside c j in omega arith) (λ p. rw p v-seen) (in-snoc c v old (rw (pushed .added) at i));
-        marked = λ c below. rw (pushed .added) (⊎-elim (λ p. rw p at-v) (λ other. elsewhere c below other) (same-or-not c v));
+        marked = λ c below. rw (pushed .added) (
+            after-set (λ m. eqb m border ≡ among c (old ++ v ∷ [])) marks v border 0 c inside (λ p. rw p (sym (among-last v old)))
+            (λ other. waits .marked c (others c below other) ∙ sym (among-other c v old other)));
       }
-    where
-      at-v : eqb (getD (set marks v border) v 0) border ≡ among v (contents queue ring ++ v ∷ [])
-      at-v = ap (λ m. eqb m border) (getD-set-same marks v border 0 inside) ∙ sym (among-last v (contents queue ring))
-
-      elsewhere : (c : ℕ) → c < seen′ → (c ≡ v → ⊥) → eqb (getD (set marks v border) c 0) border ≡ among c (contents queue ring ++ v ∷ [])
-      elsewhere c below other =
-          ap (λ m. eqb m border) (getD-set-other marks v c border 0 other)
-          ∙ waits .marked c (others c below other)
-          ∙ sym (among-other c v (contents queue ring) other)
 
   -- Another mark at a cell that does not wait changes nothing.
   pub waiting-marked :
@@ -65,14 +57,10 @@ module _ {seen : ℕ} {marks queue : List ℕ} {ring : Ring} (waits : Waiting se
     in-slots = waits .in-slots;
     single = waits .single;
     inside = λ c i. let in-seen = waits .inside c i in omega arith;
-    marked = λ c below. ⊎-elim (λ p. rw p at-v) (λ other. elsewhere c below other) (same-or-not c v);
+    marked = λ c below.
+        after-set (λ m. eqb m border ≡ among c (contents queue ring)) marks v mark 0 c inside (λ p. rw p (ne-eqb mark border other-mark ∙ sym out))
+        (λ other. waits .marked c (others c below other));
   }
-    where
-      at-v : eqb (getD (set marks v mark) v 0) border ≡ among v (contents queue ring)
-      at-v = ap (λ m. eqb m border) (getD-set-same marks v mark 0 inside) ∙ ne-eqb mark border other-mark ∙ sym out
-
-      elsewhere : (c : ℕ) → c < seen′ → (c ≡ v → ⊥) → eqb (getD (set marks v mark) c 0) border ≡ among c (contents queue ring)
-      elsewhere c below other = ap (λ m. eqb m border) (getD-set-other marks v c mark 0 other) ∙ waits .marked c (others c below other)
 
 -- ---- a cell begins
 
@@ -148,21 +136,10 @@ module _ {marks queue : List ℕ} {ring : Ring} (waits : Waiting (length marks) 
       in-slots = took .good;
       single = single-split .1;
       inside = λ c i. in-before c (inr i);
-      marked = λ c below. ⊎-elim (λ p. rw p at-first) (λ other. elsewhere c below other) (same-or-not c (taken .cell));
+      marked = λ c below.
+          let rest = contents queue (taken .ring) in
+          after-set (λ m. eqb m border ≡ among c rest) marks (taken .cell) mark 0 c taken-inside
+          (λ p. rw p (ne-eqb mark border other-mark ∙ sym (not-among (taken .cell) rest (single-split .0))))
+          (λ other. waits .marked c below ∙ ap (among c) (took .split) ∙ among-tail c (taken .cell) rest other);
     };
   }
-    where
-      at-first : eqb (getD (set marks (taken .cell) mark) (taken .cell) 0) border ≡ among (taken .cell) (contents queue (taken .ring))
-      at-first =
-          ap (λ m. eqb m border) (getD-set-same marks (taken .cell) mark 0 taken-inside)
-          ∙ ne-eqb mark border other-mark
-          ∙ sym (not-among (taken .cell) (contents queue (taken .ring)) (single-split .0))
-
-      elsewhere :
-          (c : ℕ) → c < length marks → (c ≡ taken .cell → ⊥)
-          → eqb (getD (set marks (taken .cell) mark) c 0) border ≡ among c (contents queue (taken .ring))
-      elsewhere c below other =
-          ap (λ m. eqb m border) (getD-set-other marks (taken .cell) c mark 0 other)
-          ∙ waits .marked c below
-          ∙ ap (among c) (took .split)
-          ∙ among-tail c (taken .cell) (contents queue (taken .ring)) other

@@ -1,18 +1,16 @@
 -- The cells that gain: one that was taken, and those of a whole run. Assumes nothing.
 use mathlib.Core.Bool.{Bool, true, false, not, cond, _&&_}
 use mathlib.Core.List.{List, [], _∷_, _++_, foldl-append}
-use mathlib.Core.Logic.{⊎-elim}
 use mathlib.Core.Path.{_≡_, refl, sym, ap, _∙_, subst}
-use Prim.Native.Nat.{ℕ, _+_, _<_}
+use Prim.Native.Nat.{ℕ, _+_}
 use borrow.Author.Tests.{not-true, not-false}
 use lib.Dec.{eqb}
 use lib.Ieee.{Float, nan, binary32, add, le}
 use lib.ListN.{length, getD, set, length-set, getD-replicate}
-use lib.Seq.{getD-set-same, getD-set-other}
 use Rattle.cells.specs.Ring.{SaysEmpty}
 use Rattle.binary32.specs.Numbers.{plus-zero}
 use Rattle.fifo.specs.Machine.{Net, among, joined}
-use Rattle.fifo.proofs.Lists.{same-or-not, among-other, among-last, joined-new, joined-waiting, getD-any}
+use Rattle.fifo.proofs.Lists.{after-set, among-other, among-last, joined-new, joined-waiting, getD-any}
 use Rattle.rules.specs.Sizes.{count}
 use Rattle.rules.specs.Sums.{gaining-one, gaining-of, gain}
 use Rattle.rules.specs.Values.{Carried}
@@ -51,18 +49,11 @@ module _ {cell : ℕ} {distance budget amount : Float} {answer : List Float} {ad
               ap (λ x. set answer cell (add binary32 x amount)) (getD-any answer cell nan plus-zero (reached .in-answer))
               ∙ ap (λ l. set l cell (add binary32 (getD l cell plus-zero) amount)) (before .answer-is)
               ∙ sym (gain-last amount start cells cell);
-          marked = λ c below. ⊎-elim (λ p. rw p (at-cell cells)) (λ other. elsewhere start cells before c (rw length-set at below) other) (same-or-not c cell);
+          marked = λ c below.
+              after-set (λ m. eqb m added-mark ≡ among c (cells ++ cell ∷ [])) added cell added-mark 0 c (reached .in-added) (λ p. rw p (sym (among-last cell cells)))
+              (λ other. before .marked c (rw length-set at below) ∙ sym (among-other c cell cells other));
         });
   }
-    where
-      at-cell : (cells : List ℕ) → eqb (getD (set added cell added-mark) cell 0) added-mark ≡ among cell (cells ++ cell ∷ [])
-      at-cell cells = ap (λ m. eqb m added-mark) (getD-set-same added cell added-mark 0 (reached .in-added)) ∙ sym (among-last cell cells)
-
-      elsewhere :
-          (start : List Float) (cells : List ℕ) → Gained amount start answer added cells → (c : ℕ) → c < length added → (c ≡ cell → ⊥)
-          → eqb (getD (set added cell added-mark) c 0) added-mark ≡ among c (cells ++ cell ∷ [])
-      elsewhere start cells before c below other =
-          ap (λ m. eqb m added-mark) (getD-set-other added cell c added-mark 0 other) ∙ before .marked c below ∙ sym (among-other c cell cells other)
 
   -- One that is beyond the budget, or marked, changes nothing.
   pub gains-nothing : (le distance budget && not (eqb (getD added cell 0) added-mark)) ≡ false → GainedCell cell distance budget amount answer added answer added
