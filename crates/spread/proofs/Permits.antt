@@ -3,8 +3,7 @@ use mathlib.Core.Bool.{Bool, true, false, not, cond, _&&_, _||_}
 use mathlib.Core.List.{List}
 use mathlib.Core.Logic.{⊎-elim}
 use mathlib.Core.Path.{_≡_, refl, sym, ap, _∙_}
-use Prim.Native.Nat.{ℕ, zero, suc, _+_, _*_, _/_, _%_, _<_}
-use native.Mathlib.Nat.{mul-zero, suc-mul, mul-le-mul-right, mod-lt, div-lt-iff-lt-mul}
+use Prim.Native.Nat.{ℕ, _+_, _*_, _/_, _%_, _<_}
 use native.Mathlib.Omega.{arith}
 use borrow.Author.Tests.{ne-eqb}
 use lib.Dec.{T, eqb}
@@ -14,7 +13,8 @@ use lib.ListN.{getD}
 use lib.Signed.{mag, nonNeg}
 use mir.Syntax.{w32}
 use mir.Val.{Fits}
-use Rattle.cells.proofs.Bounds.{Bounded, bounded, read, side-read, cast-is}
+use Rattle.cells.proofs.Bounds.{Bounded, bounded, read, cast-fits, cast-is}
+use Rattle.cells.proofs.Edges.{index-below, row-less, col-less, cols-cast-some}
 use Rattle.fifo.proofs.Lists.{same-or-not}
 use Rattle.rules.specs.declared.BarrierDiagonals.the-variants.{Include, Exclude}
 use Rattle.rules.specs.declared.Size.{Size}
@@ -42,19 +42,6 @@ obstacle-is {obstacles} {cell} {answer} free-says size = opposite answer (obstac
 
 -- ---- the cell in the row of one cell and the column of another
 
--- It is in the grid: the row is one of the rows, and what is added is less than a row has.
-crossed-below : (rows cols a b : ℕ) → a < rows * cols → 0 < cols → a / cols * cols + b % cols < rows * cols
-crossed-below rows cols a b below some =
-    let row = div-lt-iff-lt-mul some .1 below in
-    let rest = mod-lt b some in
-    let whole-rows = mul-le-mul-right cols row in
-    let one-more = suc-mul (a / cols) cols in
-    omega arith
-
-some-columns : (rows cols a : ℕ) → a < rows * cols → 0 < cols
-some-columns rows zero a below = absurd (omega (arith, mul-zero rows))
-some-columns rows (suc k) a below = omega arith
-
 module _ {size : Size} {a b : ℕ} (pair : Pair size a b) where
   within : Bounded size
   within = bounded size (pair .bounds)
@@ -63,13 +50,14 @@ module _ {size : Size} {a b : ℕ} (pair : Pair size a b) where
   cols-are = cast-is (within .cols-side)
 
   pub cols-cast : T (nonNeg (read (size .cols))) × Fits w32 (natAbs (read (size .cols)))
-  cols-cast = rw (side-read (within .cols-side)) (tt, record { fits = let most = within .cols-side .most in omega arith })
+  cols-cast = cast-fits (within .cols-side) w32 tt
 
   pub cols-some : 0 < natAbs (read (size .cols))
-  cols-some = rw cols-are (some-columns (mag (size .rows)) (mag (size .cols)) a (pair .first))
+  cols-some = cols-cast-some size within a (pair .first)
 
+  -- It is in the grid: its row is the one cell's, and its column the other's.
   crossed-inside : a / mag (size .cols) * mag (size .cols) + b % mag (size .cols) < count size
-  crossed-inside = crossed-below (mag (size .rows)) (mag (size .cols)) a b (pair .first) (rw cols-are at cols-some)
+  crossed-inside = index-below size (row-of size a) (col-of size b) (row-less size within a (pair .first)) (col-less size within b (pair .second))
 
   pub row-fits : Fits w32 (a / natAbs (read (size .cols)) * natAbs (read (size .cols)))
   row-fits = rw cols-are (record { fits = let below = crossed-inside in let most = within .cells-most in omega arith })
