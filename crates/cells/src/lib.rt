@@ -5,8 +5,8 @@
 // (`neighbours_of`, and `near`, which finds the same list faster; `neighbour_at` is the one at any single
 // step from a cell's row and column, which `place_of` tells), and that the ring serves cells in the order
 // in which they came (`push`, `take`).
-// Its laws, for the crates above, are in proofs/: a neighbour is a cell of the grid and never the cell
-// itself, and what the ring's functions do to the list of the waiting cells.
+// Its laws, for the crates above, are in proofs/: that a neighbour is a cell of the grid, and what the
+// ring's functions do to the list of the waiting cells.
 mod neighbours;
 mod ring;
 mod sizes;
