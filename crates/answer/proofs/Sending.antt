@@ -34,7 +34,7 @@ same-refusal r s e = cc
 
 -- A call that keeps its promise answers, with its answer slice, what its outcome is. Proof: it says the outcome's refusal or takes, which
 -- decides the case; and an accepted call's answer slice is the outcome's grid.
-pub stated-is : (outcome : Outcome) (r : Answer) {answer : Slice Float} {marks queue : Slice ℕ} → Promised outcome r answer marks queue → stated r (answer .after) ≡ outcome
+pub stated-is : (outcome : Outcome) (r : Answer) {answer : Slice Float} {marks queue : Slice ℕ} → Promised r answer marks queue outcome → stated r (answer .after) ≡ outcome
 stated-is (refused s) (Refused x) p = ap refused (same-refusal (refusal-number x) s (p .says))
 stated-is (refused s) (Accepted counts) p = absurd (refusal-no-takes s (counts .takes) (sym (p .says)))
 stated-is (accepted t grid) (Refused x) p = absurd (refusal-no-takes (refusal-number x) t (p .says))

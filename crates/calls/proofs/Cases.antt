@@ -2,7 +2,7 @@
 use mathlib.Core.List.{List, [], _∷_, map}
 use mathlib.Core.Path.{_≡_, refl}
 use Prim.Native.Nat.{ℕ}
-use lib.Ieee.{Float, nan}
+use lib.Ieee.{nan}
 use Rattle.binary32.specs.Numbers.{plus-zero, one}
 use Rattle.rules.specs.Sizes.{number, number-at, Outcome, refused, accepted}
 use Rattle.calls.specs.Answer.{answer-after, buffer-after}

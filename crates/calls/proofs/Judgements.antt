@@ -5,7 +5,7 @@ use mathlib.Core.List.{List, [], _∷_, _++_}
 use Prim.Native.Nat.{ℕ}
 use lib.Ieee.{Float}
 use Rattle.rules.specs.declared.Size.{Size}
-use Rattle.rules.specs.Sizes.{Refusal, number, number-at, Judged, passes, stops, Lent, or-else, first-that-holds, any, first-index, shape, below-zero, negative-time}
+use Rattle.rules.specs.Sizes.{Refusal, number-at, Judged, passes, stops, Lent, or-else, first-that-holds, any, first-index, shape, below-zero, negative-time}
 use Rattle.rules.proofs.Refusals.{not-held, or-else-append}
 use Rattle.calls.specs.Answer as code
 use Rattle.calls.specs.Answer.{judged-as, Passes, Stops}

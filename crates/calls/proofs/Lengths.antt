@@ -10,15 +10,15 @@ use Rattle.rules.specs.Sizes.{count, other-than, wrong-length, any}
 use Rattle.rules.proofs.Any.{any-append}
 use Rattle.calls.specs.Given.{lent}
 
-module _ (size : Size) (inputs slices : List ℕ) (queue : ℕ) {n : ℕ} (counted : n ≡ count size) where
-  parts : wrong-length size inputs (lent slices queue) ≡ ((any (other-than n) inputs || any (other-than n) slices) || not (eqb queue (suc n)))
-  parts = rw (any-append (other-than (count size)) inputs slices, counted)
+module _ (size : Size) (input-lengths lent-lengths : List ℕ) (queue-length : ℕ) {n : ℕ} (counted : n ≡ count size) where
+  parts : wrong-length size input-lengths (lent lent-lengths queue-length) ≡ ((any (other-than n) input-lengths || any (other-than n) lent-lengths) || not (eqb queue-length (suc n)))
+  parts = rw (any-append (other-than (count size)) input-lengths lent-lengths, counted)
 
-  pub input-wrong : any (other-than n) inputs ≡ true → true ≡ wrong-length size inputs (lent slices queue)
+  pub input-wrong : any (other-than n) input-lengths ≡ true → true ≡ wrong-length size input-lengths (lent lent-lengths queue-length)
   input-wrong some = sym (parts ∙ rw some)
 
-  pub slice-wrong : any (other-than n) slices ≡ true → true ≡ wrong-length size inputs (lent slices queue)
+  pub slice-wrong : any (other-than n) lent-lengths ≡ true → true ≡ wrong-length size input-lengths (lent lent-lengths queue-length)
   slice-wrong some = sym (parts ∙ rw (some, or-true))
 
-  pub queue-decides : any (other-than n) inputs ≡ false → any (other-than n) slices ≡ false → not (eqb queue (n + 1)) ≡ wrong-length size inputs (lent slices queue)
+  pub queue-decides : any (other-than n) input-lengths ≡ false → any (other-than n) lent-lengths ≡ false → not (eqb queue-length (n + 1)) ≡ wrong-length size input-lengths (lent lent-lengths queue-length)
   queue-decides inputs-right slices-right = sym (parts ∙ rw (inputs-right, slices-right, add-one))

@@ -22,8 +22,8 @@ AllAre a (b ∷ rest) = (b ≡ a) × AllAre a rest
 pub record Shaped (size : Size) (others : List Size) (inputs : List ℕ) (lent : Lent) : Type 0 where
   pub within : T (in-bounds size)
   pub alike : AllAre size others
-  pub long : AllAre (count size) (inputs ++ lent .slices)
-  pub queue-long : lent .queue ≡ suc (count size)
+  pub long : AllAre (count size) (inputs ++ lent .lengths)
+  pub queue-long : lent .queue-length ≡ suc (count size)
 
 -- Where no test finds another than a, all are a.
 all-are : {A : Type 0} {a : A} (test : A → Bool) → ((b : A) → test b ≡ false → b ≡ a) → (xs : List A) → any test xs ≡ false → AllAre a xs
@@ -47,6 +47,6 @@ module _ (size : Size) (others : List Size) (inputs : List ℕ) (lent : Lent) (m
       record {
         within = holds (not-false (in-bounds size) (neither _ _ (after-1 .0) .0));
         alike = all-are (differs size) (same-size-is size) others (after-2 .0);
-        long = all-are (other-than (count size)) (λ l e. eqb-true l (count size) (not-false (eqb l (count size)) e)) (inputs ++ lent .slices) (lengths .0);
-        queue-long = eqb-true (lent .queue) (suc (count size)) (not-false (eqb (lent .queue) (suc (count size))) (lengths .1));
+        long = all-are (other-than (count size)) (λ l e. eqb-true l (count size) (not-false (eqb l (count size)) e)) (inputs ++ lent .lengths) (lengths .0);
+        queue-long = eqb-true (lent .queue-length) (suc (count size)) (not-false (eqb (lent .queue-length) (suc (count size))) (lengths .1));
       }

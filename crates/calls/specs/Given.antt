@@ -5,4 +5,4 @@ use Rattle.rules.specs.Sizes.{Lent}
 
 -- The lengths of the answer and of the work buffers, and that of the queue.
 abbrev pub lent : List ℕ → ℕ → Lent
-lent slices queue = record { slices = slices; queue = queue }
+lent lengths queue-length = record { lengths = lengths; queue-length = queue-length }

@@ -15,7 +15,7 @@ abbrev pub slice : {A : Type 0} → List A → List A → Slice A
 slice before after = record { before = before; after = after }
 
 -- The call says what the outcome tells, and leaves in the answer, the marks and the queue what the outcome leaves there.
-pub record Promised (outcome : Outcome) (r : Answer) (answer : Slice Float) (marks queue : Slice ℕ) : Type 0 where
+pub record Promised (r : Answer) (answer : Slice Float) (marks queue : Slice ℕ) (outcome : Outcome) : Type 0 where
   pub says : told r ≡ tell outcome
   pub answer-left : answer .after ≡ answer-after outcome (answer .before)
   pub marks-left : marks .after ≡ buffer-after 0 outcome (marks .before)

@@ -21,12 +21,12 @@ pub fn judge_1(
     size: Size,
     targets: &[u8],
     spacing: Spacing,
-    slices: &[usize],
-    queue: usize,
+    lent_lengths: &[usize],
+    queue_length: usize,
 ) -> Judged
-    ensures { λ r. ⌜ judged-as r ≡ refusals-1 (grid size (now (targets .entry))) spacing (lent (now (slices .entry)) queue) ⌝ }
+    ensures { λ r. ⌜ judged-as r ≡ refusals-1 (grid size (now (targets .entry))) spacing (lent (now («lent_lengths» .entry)) «queue_length») ⌝ }
 {
-    let shape = judge_one(size, &[targets.len()], slices, queue);
+    let shape = judge_one(size, &[targets.len()], lent_lengths, queue_length);
     let cell_size = judge_cell_size(spacing);
     let limit = judge_limit(spacing.limit);
     let numbers = first_refusal(cell_size, limit);
@@ -40,17 +40,17 @@ pub fn judge_2(
     obstacles_size: Size,
     obstacles: &[u8],
     spacing: Spacing,
-    slices: &[usize],
-    queue: usize,
+    lent_lengths: &[usize],
+    queue_length: usize,
 ) -> Judged
-    ensures { λ r. ⌜ judged-as r ≡ refusals-2 (grid «targets_size» (now (targets .entry))) (grid «obstacles_size» (now (obstacles .entry))) spacing (lent (now (slices .entry)) queue) ⌝ }
+    ensures { λ r. ⌜ judged-as r ≡ refusals-2 (grid «targets_size» (now (targets .entry))) (grid «obstacles_size» (now (obstacles .entry))) spacing (lent (now («lent_lengths» .entry)) «queue_length») ⌝ }
 {
     let shape = judge_two(
         targets_size,
         obstacles_size,
         &[targets.len(), obstacles.len()],
-        slices,
-        queue,
+        lent_lengths,
+        queue_length,
     );
     let cell_size = judge_cell_size(spacing);
     first_refusal(shape, cell_size)
@@ -63,17 +63,17 @@ pub fn judge_3(
     times_size: Size,
     times: &[f32],
     cap: f32,
-    slices: &[usize],
-    queue: usize,
+    lent_lengths: &[usize],
+    queue_length: usize,
 ) -> Judged
-    ensures { λ r. ⌜ judged-as r ≡ refusals-3 (grid «targets_size» (now (targets .entry))) (grid «times_size» (now (times .entry))) cap (lent (now (slices .entry)) queue) ⌝ }
+    ensures { λ r. ⌜ judged-as r ≡ refusals-3 (grid «targets_size» (now (targets .entry))) (grid «times_size» (now (times .entry))) cap (lent (now («lent_lengths» .entry)) «queue_length») ⌝ }
 {
     let shape = judge_two(
         targets_size,
         times_size,
         &[targets.len(), times.len()],
-        slices,
-        queue,
+        lent_lengths,
+        queue_length,
     );
     let Judged::Passes = shape else {
         return shape;

@@ -20,18 +20,18 @@ pub fn judge_7(
     values_size: Size,
     values: &[f32],
     budget: f32,
-    slices: &[usize],
-    queue: usize,
+    lent_lengths: &[usize],
+    queue_length: usize,
 ) -> Judged
-    ensures { λ r. ⌜ judged-as r ≡ refusals-7 (grid «mask_size» (now (mask .entry))) (grid «times_size» (now (times .entry))) (grid «values_size» (now (values .entry))) budget (lent (now (slices .entry)) queue) ⌝ }
+    ensures { λ r. ⌜ judged-as r ≡ refusals-7 (grid «mask_size» (now (mask .entry))) (grid «times_size» (now (times .entry))) (grid «values_size» (now (values .entry))) budget (lent (now («lent_lengths» .entry)) «queue_length») ⌝ }
 {
     let shape = judge_three(
         mask_size,
         times_size,
         values_size,
         &[mask.len(), times.len(), values.len()],
-        slices,
-        queue,
+        lent_lengths,
+        queue_length,
     );
     let Judged::Passes = shape else {
         return shape;
@@ -46,17 +46,17 @@ pub fn judge_8(
     amounts_size: Size,
     amounts: &[f32],
     budget: f32,
-    slices: &[usize],
-    queue: usize,
+    lent_lengths: &[usize],
+    queue_length: usize,
 ) -> Judged
-    ensures { λ r. ⌜ judged-as r ≡ refusals-8 (grid «times_size» (now (times .entry))) (grid «amounts_size» (now (amounts .entry))) budget (lent (now (slices .entry)) queue) ⌝ }
+    ensures { λ r. ⌜ judged-as r ≡ refusals-8 (grid «times_size» (now (times .entry))) (grid «amounts_size» (now (amounts .entry))) budget (lent (now («lent_lengths» .entry)) «queue_length») ⌝ }
 {
     let shape = judge_two(
         times_size,
         amounts_size,
         &[times.len(), amounts.len()],
-        slices,
-        queue,
+        lent_lengths,
+        queue_length,
     );
     let Judged::Passes = shape else {
         return shape;

@@ -18,17 +18,17 @@ pub fn judge_4(
     targets: &[u8],
     values_size: Size,
     values: &[f32],
-    slices: &[usize],
-    queue: usize,
+    lent_lengths: &[usize],
+    queue_length: usize,
 ) -> Judged
-    ensures { λ r. ⌜ judged-as r ≡ refusals-4 (grid «targets_size» (now (targets .entry))) (grid «values_size» (now (values .entry))) (lent (now (slices .entry)) queue) ⌝ }
+    ensures { λ r. ⌜ judged-as r ≡ refusals-4 (grid «targets_size» (now (targets .entry))) (grid «values_size» (now (values .entry))) (lent (now («lent_lengths» .entry)) «queue_length») ⌝ }
 {
     judge_two(
         targets_size,
         values_size,
         &[targets.len(), values.len()],
-        slices,
-        queue,
+        lent_lengths,
+        queue_length,
     )
 }
 
@@ -40,18 +40,18 @@ pub fn judge_5(
     times: &[f32],
     values_size: Size,
     values: &[f32],
-    slices: &[usize],
-    queue: usize,
+    lent_lengths: &[usize],
+    queue_length: usize,
 ) -> Judged
-    ensures { λ r. ⌜ judged-as r ≡ refusals-5 (grid «targets_size» (now (targets .entry))) (grid «times_size» (now (times .entry))) (grid «values_size» (now (values .entry))) (lent (now (slices .entry)) queue) ⌝ }
+    ensures { λ r. ⌜ judged-as r ≡ refusals-5 (grid «targets_size» (now (targets .entry))) (grid «times_size» (now (times .entry))) (grid «values_size» (now (values .entry))) (lent (now («lent_lengths» .entry)) «queue_length») ⌝ }
 {
     let shape = judge_three(
         targets_size,
         times_size,
         values_size,
         &[targets.len(), times.len(), values.len()],
-        slices,
-        queue,
+        lent_lengths,
+        queue_length,
     );
     let Judged::Passes = shape else {
         return shape;
@@ -68,18 +68,18 @@ pub fn judge_6(
     values_size: Size,
     values: &[f32],
     limit: f32,
-    slices: &[usize],
-    queue: usize,
+    lent_lengths: &[usize],
+    queue_length: usize,
 ) -> Judged
-    ensures { λ r. ⌜ judged-as r ≡ refusals-6 (grid «targets_size» (now (targets .entry))) (grid «times_size» (now (times .entry))) (grid «values_size» (now (values .entry))) limit (lent (now (slices .entry)) queue) ⌝ }
+    ensures { λ r. ⌜ judged-as r ≡ refusals-6 (grid «targets_size» (now (targets .entry))) (grid «times_size» (now (times .entry))) (grid «values_size» (now (values .entry))) limit (lent (now («lent_lengths» .entry)) «queue_length») ⌝ }
 {
     let shape = judge_three(
         targets_size,
         times_size,
         values_size,
         &[targets.len(), times.len(), values.len()],
-        slices,
-        queue,
+        lent_lengths,
+        queue_length,
     );
     let Judged::Passes = shape else {
         return shape;

@@ -25,33 +25,49 @@ fn any_other(n: usize, lengths: &[usize]) -> bool
 }
 
 // 3: whether a slice has not its length: n, or n + 1 for the queue.
-fn wrong_length(size: Size, inputs: &[usize], slices: &[usize], queue: usize) -> bool
+fn wrong_length(
+    size: Size,
+    input_lengths: &[usize],
+    lent_lengths: &[usize],
+    queue_length: usize,
+) -> bool
     requires { ⌜ T (in-bounds size) ⌝ }
-    ensures { λ r. ⌜ r ≡ wrong-length size (now (inputs .entry)) (lent (now (slices .entry)) queue) ⌝ }
+    ensures { λ r. ⌜ r ≡ wrong-length size (now («input_lengths» .entry)) (lent (now («lent_lengths» .entry)) «queue_length») ⌝ }
 {
     let n = cell_count(size);
-    if any_other(n, inputs) || any_other(n, slices) {
+    if any_other(n, input_lengths) || any_other(n, lent_lengths) {
         return true;
     }
-    queue != n + 1
+    queue_length != n + 1
 }
 
 // 1 to 3 where there is one input grid.
-pub fn judge_one(size: Size, inputs: &[usize], slices: &[usize], queue: usize) -> Judged
-    ensures { λ r. ⌜ judged-as r ≡ first-that-holds (shape size [] (now (inputs .entry)) (lent (now (slices .entry)) queue) []) ⌝ }
+pub fn judge_one(
+    size: Size,
+    input_lengths: &[usize],
+    lent_lengths: &[usize],
+    queue_length: usize,
+) -> Judged
+    ensures { λ r. ⌜ judged-as r ≡ first-that-holds (shape size [] (now («input_lengths» .entry)) (lent (now («lent_lengths» .entry)) «queue_length») []) ⌝ }
 {
     if !in_bounds(size) {
         return Judged::Stops(Refusal::SizeOutOfBounds);
     }
-    if wrong_length(size, inputs, slices, queue) {
+    if wrong_length(size, input_lengths, lent_lengths, queue_length) {
         return Judged::Stops(Refusal::WrongLength);
     }
     Judged::Passes
 }
 
 // 1 to 3 where there are two.
-pub fn judge_two(a: Size, b: Size, inputs: &[usize], slices: &[usize], queue: usize) -> Judged
-    ensures { λ r. ⌜ judged-as r ≡ first-that-holds (shape a (b ∷ []) (now (inputs .entry)) (lent (now (slices .entry)) queue) []) ⌝ }
+pub fn judge_two(
+    a: Size,
+    b: Size,
+    input_lengths: &[usize],
+    lent_lengths: &[usize],
+    queue_length: usize,
+) -> Judged
+    ensures { λ r. ⌜ judged-as r ≡ first-that-holds (shape a (b ∷ []) (now («input_lengths» .entry)) (lent (now («lent_lengths» .entry)) «queue_length») []) ⌝ }
 {
     if !in_bounds(a) || !in_bounds(b) {
         return Judged::Stops(Refusal::SizeOutOfBounds);
@@ -59,7 +75,7 @@ pub fn judge_two(a: Size, b: Size, inputs: &[usize], slices: &[usize], queue: us
     if !same_size(a, b) {
         return Judged::Stops(Refusal::SizesDiffer);
     }
-    if wrong_length(a, inputs, slices, queue) {
+    if wrong_length(a, input_lengths, lent_lengths, queue_length) {
         return Judged::Stops(Refusal::WrongLength);
     }
     Judged::Passes
@@ -70,11 +86,11 @@ pub fn judge_three(
     a: Size,
     b: Size,
     c: Size,
-    inputs: &[usize],
-    slices: &[usize],
-    queue: usize,
+    input_lengths: &[usize],
+    lent_lengths: &[usize],
+    queue_length: usize,
 ) -> Judged
-    ensures { λ r. ⌜ judged-as r ≡ first-that-holds (shape a (b ∷ c ∷ []) (now (inputs .entry)) (lent (now (slices .entry)) queue) []) ⌝ }
+    ensures { λ r. ⌜ judged-as r ≡ first-that-holds (shape a (b ∷ c ∷ []) (now («input_lengths» .entry)) (lent (now («lent_lengths» .entry)) «queue_length») []) ⌝ }
 {
     if !in_bounds(a) || !in_bounds(b) || !in_bounds(c) {
         return Judged::Stops(Refusal::SizeOutOfBounds);
@@ -82,7 +98,7 @@ pub fn judge_three(
     if !same_size(a, b) || !same_size(a, c) {
         return Judged::Stops(Refusal::SizesDiffer);
     }
-    if wrong_length(a, inputs, slices, queue) {
+    if wrong_length(a, input_lengths, lent_lengths, queue_length) {
         return Judged::Stops(Refusal::WrongLength);
     }
     Judged::Passes

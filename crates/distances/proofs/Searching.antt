@@ -20,6 +20,7 @@ use Rattle.calls.specs.Answer.{takes}
 use Rattle.calls.specs.Given.{lent}
 use Rattle.calls.specs.Promise.{Slice, slice, Promised}
 use Rattle.calls.proofs.Shapes.{shaped}
+use Rattle.calls.proofs.Promises.{still-zero}
 use Rattle.spread.specs.declared.search.Rule.the-variants.{Plain, Obstacles, HalfSum}
 use Rattle.spread.specs.declared.search.Search.{Search}
 use Rattle.spread.specs.Nets.{Grids, carries, reads-times}
@@ -36,18 +37,18 @@ pub found-promised :
     {search : Search} {of : Grids} {distances carried distances₁ carried₁ : List Float} {marks marks₁ marks₂ queue queue₁ queue₂ : List ℕ} {t : ℕ}
     → Spreads search of distances carried marks queue → Spread search of carried distances₁ carried₁ marks₁ queue₁ t
     → marks₂ ≡ replicate (length marks₁) 0 → queue₂ ≡ replicate (length queue₁) 0
-    → Promised (found search of) (Accepted (record { takes = t })) (slice distances distances₁) (slice marks marks₂) (slice queue queue₂)
+    → Promised (Accepted (record { takes = t })) (slice distances distances₁) (slice marks marks₂) (slice queue queue₂) (found search of)
 unfolding found
 found-promised asked spreads marks-zeroed queue-zeroed = record {
   says = ap takes (spreads .counted);
   answer-left = distances-are spreads;
-  marks-left = marks-zeroed ∙ ap (λ n. replicate n 0) (spreads .lengths .marks-length ∙ sym (asked .lengths .marks-length));
-  queue-left = queue-zeroed ∙ ap (λ n. replicate n 0) (spreads .lengths .queue-length ∙ sym (asked .lengths .queue-length));
+  marks-left = still-zero 0 marks-zeroed (spreads .lengths .marks-length) (asked .lengths .marks-length);
+  queue-left = still-zero 0 queue-zeroed (spreads .lengths .queue-length) (asked .lengths .queue-length);
 }
 
 -- The distances, scaled, are the answer; or they are the answer as they are.
-module _ (search : Search) (of : Grids) {r : Answer} {answer answer₁ answer₂ : List Float} {marks queue : Slice ℕ} (promised : Promised (found search of) r (slice answer answer₁) marks queue) where
-  pub scaled-promised : (spacing : Spacing) → answer₂ ≡ scaled (spacing .«cell_size») answer₁ → Promised (searched search of spacing) r (slice answer answer₂) marks queue
+module _ (search : Search) (of : Grids) {r : Answer} {answer answer₁ answer₂ : List Float} {marks queue : Slice ℕ} (promised : Promised r (slice answer answer₁) marks queue (found search of)) where
+  pub scaled-promised : (spacing : Spacing) → answer₂ ≡ scaled (spacing .«cell_size») answer₁ → Promised r (slice answer answer₂) marks queue (searched search of spacing)
   unfolding found searched
   scaled-promised spacing scales = record {
     says = promised .says;
@@ -56,7 +57,7 @@ module _ (search : Search) (of : Grids) {r : Answer} {answer answer₁ answer₂
     queue-left = promised .queue-left;
   }
 
-  pub settled-promised : answer₂ ≡ answer₁ → Promised (found search of) r (slice answer answer₂) marks queue
+  pub settled-promised : answer₂ ≡ answer₁ → Promised r (slice answer answer₂) marks queue (found search of)
   settled-promised settled = record {
     says = promised .says;
     answer-left = settled ∙ promised .answer-left;

@@ -27,7 +27,7 @@ lengths answer marks queue = lent (length (answer .before) ∷ length (marks .be
 -- 1: distances_up_to.
 abbrev pub DistancesUpTo : Size → List ℕ → Spacing → Slice Float → Slice ℕ → Slice ℕ → Answer → Type 0
 DistancesUpTo size targets spacing answer marks queue r =
-    Promised (outcome-1 (grid size targets) spacing (lengths answer marks queue)) r answer marks queue
+    Promised r answer marks queue (outcome-1 (grid size targets) spacing (lengths answer marks queue))
 
 -- distance: the same, where the limit is infinity.
 abbrev pub Distance : Size → List ℕ → Float → Slice Float → Slice ℕ → Slice ℕ → Answer → Type 0
@@ -36,12 +36,12 @@ Distance size targets cell-size = DistancesUpTo size targets (record { «cell_si
 -- 2: distance_with_obstacles.
 abbrev pub DistanceWithObstacles : Size → List ℕ → Size → List ℕ → Spacing → BarrierDiagonals → Slice Float → Slice ℕ → Slice ℕ → Answer → Type 0
 DistanceWithObstacles targets-size targets obstacles-size obstacles spacing diagonals answer marks queue r =
-    Promised (outcome-2 (grid targets-size targets) (grid obstacles-size obstacles) spacing diagonals (lengths answer marks queue)) r answer marks queue
+    Promised r answer marks queue (outcome-2 (grid targets-size targets) (grid obstacles-size obstacles) spacing diagonals (lengths answer marks queue))
 
 -- 3: travel_distances_up_to.
 abbrev pub TravelDistancesUpTo : Size → List ℕ → Size → List Float → Float → Slice Float → Slice ℕ → Slice ℕ → Answer → Type 0
 TravelDistancesUpTo targets-size targets times-size times cap answer marks queue r =
-    Promised (outcome-3 (grid targets-size targets) (grid times-size times) cap (lengths answer marks queue)) r answer marks queue
+    Promised r answer marks queue (outcome-3 (grid targets-size targets) (grid times-size times) cap (lengths answer marks queue))
 
 -- travel_distance: the same, where the cap is infinity.
 abbrev pub TravelDistance : Size → List ℕ → Size → List Float → Slice Float → Slice ℕ → Slice ℕ → Answer → Type 0

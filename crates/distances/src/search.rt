@@ -23,7 +23,7 @@ fn find_distances(
     queue: &mut [u32],
 ) -> Answer
     requires { ⌜ Searches search (grids (now targets) (now obstacles) (now times) unread) (now answer) (now marks) (now queue) ⌝ }
-    ensures { λ r. ⌜ Promised (found search (grids (now (targets .entry)) (now (obstacles .entry)) (now (times .entry)) unread)) r (slice (now (answer .entry)) (now (answer .exit))) (slice (now (marks .entry)) (now (marks .exit))) (slice (now (queue .entry)) (now (queue .exit))) ⌝ }
+    ensures { λ r. ⌜ Promised r (slice (now (answer .entry)) (now (answer .exit))) (slice (now (marks .entry)) (now (marks .exit))) (slice (now (queue .entry)) (now (queue .exit))) (found search (grids (now (targets .entry)) (now (obstacles .entry)) (now (times .entry)) unread)) ⌝ }
 {
     let values = [0.0; 1];
     let mut carried = [0.0; 1];
@@ -54,7 +54,7 @@ pub fn search_distances(
     queue: &mut [u32],
 ) -> Answer
     requires { ⌜ Searches search (grids (now targets) (now obstacles) unread unread) (now answer) (now marks) (now queue) ⌝ }
-    ensures { λ r. ⌜ Promised (searched search (grids (now (targets .entry)) (now (obstacles .entry)) unread unread) spacing) r (slice (now (answer .entry)) (now (answer .exit))) (slice (now (marks .entry)) (now (marks .exit))) (slice (now (queue .entry)) (now (queue .exit))) ⌝ }
+    ensures { λ r. ⌜ Promised r (slice (now (answer .entry)) (now (answer .exit))) (slice (now (marks .entry)) (now (marks .exit))) (slice (now (queue .entry)) (now (queue .exit))) (searched search (grids (now (targets .entry)) (now (obstacles .entry)) unread unread) spacing) ⌝ }
 {
     let times = [0.0; 1];
     let found = find_distances(search, targets, obstacles, &times, answer, marks, queue);
@@ -72,7 +72,7 @@ pub fn search_travel(
     queue: &mut [u32],
 ) -> Answer
     requires { ⌜ Searches search (grids (now targets) (now targets) (now times) unread) (now answer) (now marks) (now queue) ⌝ }
-    ensures { λ r. ⌜ Promised (found search (grids (now (targets .entry)) (now (targets .entry)) (now (times .entry)) unread)) r (slice (now (answer .entry)) (now (answer .exit))) (slice (now (marks .entry)) (now (marks .exit))) (slice (now (queue .entry)) (now (queue .exit))) ⌝ }
+    ensures { λ r. ⌜ Promised r (slice (now (answer .entry)) (now (answer .exit))) (slice (now (marks .entry)) (now (marks .exit))) (slice (now (queue .entry)) (now (queue .exit))) (found search (grids (now (targets .entry)) (now (targets .entry)) (now (times .entry)) unread)) ⌝ }
 {
     let found = find_distances(search, targets, targets, times, answer, marks, queue);
     settle(answer);

@@ -52,7 +52,7 @@ row cells = grid 1 (length cells) cells
 
 -- Slices of the right lengths: the answer and k work buffers of n, and the queue.
 abbrev pub lent : ℕ → ℕ → Lent
-lent n k = record { slices = n ∷ replicate k n; queue = suc n }
+lent n k = record { lengths = n ∷ replicate k n; queue-length = suc n }
 
 abbrev pub spacing : Float → Spacing
 spacing limit = record { «cell_size» = one; limit = limit }
@@ -151,7 +151,7 @@ more =
     -- of 3: 1, 2, 3, 5, 6 with the first index
     (outcome-3 (sized (negsuc 0) (pos 1) []) (row (minus-one ∷ [])) nan (lent 0 1), refusal (number 1)) ∷
     (outcome-3 (grid 0 3 []) (grid 3 0 (minus-one ∷ [])) nan (lent 0 1), refusal (number 2)) ∷
-    (outcome-3 (row (1 ∷ [])) (row (minus-one ∷ [])) nan (record { slices = 1 ∷ 1 ∷ []; queue = 1 }), refusal (number 3)) ∷
+    (outcome-3 (row (1 ∷ [])) (row (minus-one ∷ [])) nan (record { lengths = 1 ∷ 1 ∷ []; queue-length = 1 }), refusal (number 3)) ∷
     (outcome-3 (row (1 ∷ [])) (row (inf true ∷ [])) nan (lent 1 1), refusal (number 5)) ∷
     (outcome-3 (row (1 ∷ 0 ∷ 0 ∷ [])) (row (nan ∷ inf true ∷ inf true ∷ [])) (inf true) (lent 3 1), refusal (number-at 6 1)) ∷
     -- of 4: 1, 2, 3
@@ -167,7 +167,7 @@ more =
     -- of 6: 1, 2, 3, 5, 6; -0.0 is no negative time
     (outcome-6 (sized (pos 0) (negsuc 0) []) (row (minus-one ∷ [])) (row []) nan (lent 0 2), refusal (number 1)) ∷
     (outcome-6 (row []) (row (minus-one ∷ [])) (row []) nan (lent 0 2), refusal (number 2)) ∷
-    (outcome-6 (row (1 ∷ [])) (row (minus-one ∷ [])) (row (nan ∷ [])) nan (record { slices = 1 ∷ 1 ∷ 1 ∷ []; queue = 0 }), refusal (number 3)) ∷
+    (outcome-6 (row (1 ∷ [])) (row (minus-one ∷ [])) (row (nan ∷ [])) nan (record { lengths = 1 ∷ 1 ∷ 1 ∷ []; queue-length = 0 }), refusal (number 3)) ∷
     (outcome-6 (row (1 ∷ [])) (row (minus-one ∷ [])) (row (nan ∷ [])) nan (lent 1 2), refusal (number 5)) ∷
     (outcome-6 (row (1 ∷ 0 ∷ [])) (row (neg plus-zero ∷ minus-one ∷ [])) (row (whole 1 ∷ whole 1 ∷ [])) (inf true) (lent 2 2), refusal (number-at 6 1)) ∷
     -- of 7: 1, 2, 3, 5 (NaN, 0, -0.0), 6 where 7 would be too, and 7 with the first mask cell in row order

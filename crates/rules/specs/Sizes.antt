@@ -45,8 +45,8 @@ same-size a b = same-number (a .rows) (b .rows) && same-number (a .cols) (b .col
 
 -- The lengths of the lent answer and work buffers, in the order in which the call takes them, and that of the queue.
 pub record Lent : Type 0 where
-  pub slices : List ℕ
-  pub queue : ℕ
+  pub lengths : List ℕ
+  pub queue-length : ℕ
 
 -- A refusal's number, alone or with its index.
 pub data Refusal : Type 0 where
@@ -103,7 +103,7 @@ other-than n length = not (eqb length n)
 
 -- 3: a lent slice has not its length: n, or n + 1 for the queue.
 abbrev pub wrong-length : Size → List ℕ → Lent → Bool
-wrong-length size inputs lent = any (other-than (count size)) (inputs ++ lent .slices) || other-than (suc (count size)) (lent .queue)
+wrong-length size inputs lent = any (other-than (count size)) (inputs ++ lent .lengths) || other-than (suc (count size)) (lent .queue-length)
 
 -- These three, then the search's own tests. The first grid's size, those of the others, the lengths of the input slices, and what else is lent.
 unfoldable pub shape : Size → List Size → List ℕ → Lent → List (Bool × Refusal) → List (Bool × Refusal)

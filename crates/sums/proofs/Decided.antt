@@ -9,6 +9,7 @@ use lib.ListN.{getD}
 use Rattle.rules.specs.declared.Size.{Size}
 use Rattle.rules.specs.Sizes.{grid, Judged, passes, stops, accepted, unless}
 use Rattle.rules.specs.Sums.{total-takes, from-mask-cell, runs-7, sums, refusals-7, refusal-7, outcome-7, from-amount, runs-8, gains, refusals-8, outcome-8}
+use Rattle.rules.proofs.Decided.{equation-decides}
 use Rattle.rules.proofs.Tests.{never}
 use Rattle.rules.proofs.Inputs.{AcceptedTimes, AcceptedBudget}
 use Rattle.rules.proofs.Accepted.{accepted-7, accepted-8}
@@ -47,9 +48,9 @@ module _ (mask-size : Size) (mask : List ℕ) (times-size : Size) (times : List 
       → SameSums r s answer₁ answer₂ distances₁ distances₂ marks₁ marks₂ listed₁ listed₂ adjacent₁ adjacent₂ queue₁ queue₂
   sum-within-decided p q = record {
     same = promise-decides _ (p .promised) (q .promised);
-    distances = p .distances-left ∙ sym (q .distances-left);
-    listed = p .listed-left ∙ sym (q .listed-left);
-    adjacent = p .adjacent-left ∙ sym (q .adjacent-left);
+    distances = equation-decides (p .distances-left) (q .distances-left);
+    listed = equation-decides (p .listed-left) (q .listed-left);
+    adjacent = equation-decides (p .adjacent-left) (q .adjacent-left);
   }
 
   pub sum-within-squares :
@@ -88,8 +89,8 @@ module _ (times-size : Size) (times : List Float) (amounts-size : Size) (amounts
       → SameGains r s answer₁ answer₂ distances₁ distances₂ marks₁ marks₂ added₁ added₂ queue₁ queue₂
   sum-targets-decided p q = record {
     same = promise-decides _ (p .promised) (q .promised);
-    distances = p .distances-left ∙ sym (q .distances-left);
-    added = p .added-left ∙ sym (q .added-left);
+    distances = equation-decides (p .distances-left) (q .distances-left);
+    added = equation-decides (p .added-left) (q .added-left);
   }
 
   pub sum-targets-within-squares :

@@ -10,8 +10,7 @@ use lib.Ieee.{Float}
 use lib.ListN.{length}
 use mir.Syntax.{w64}
 use mir.Val.{Fits}
-use Rattle.fifo.specs.Machine.{Net, passing, takes, takes-of}
-use Rattle.fifo.specs.Simulation.{Within}
+use Rattle.fifo.specs.Machine.{Net, passing, takes-of}
 use Rattle.fifo.proofs.Lists.{passing-append, passing-last, length-passing}
 use Rattle.rules.specs.declared.Size.{Size}
 use Rattle.rules.specs.Sizes.{count}

@@ -2,13 +2,13 @@
 use mathlib.Core.Bool.{false}
 use mathlib.Core.List.{List, [], _∷_}
 use mathlib.Core.Logic.{⊎-elim}
-use mathlib.Core.Path.{_≡_, sym, ap, _∙_, subst}
+use mathlib.Core.Path.{_≡_, sym, ap, _∙_}
 use Prim.Native.Nat.{ℕ, _*_, zero-le}
 use lib.Dec.{T}
 use lib.Ieee.{Float, nan, binary32, fits}
 use lib.ListN.{length, getD, replicate, length-replicate}
 use Rattle.binary32.specs.Numbers.{plus-zero}
-use Rattle.fifo.specs.Machine.{initial, takes}
+use Rattle.fifo.specs.Machine.{initial}
 use Rattle.fifo.specs.Simulation.{Within}
 use Rattle.fifo.proofs.Lists.{tested, holds}
 use Rattle.fifo.proofs.Induction.{takes-stopped}
@@ -20,18 +20,17 @@ use Rattle.rules.proofs.Inputs.{AcceptedTimes, AcceptedBudget}
 use Rattle.rules.proofs.Accepted.{accepted-8}
 use Rattle.rules.proofs.Nets.{amount-laws}
 use Rattle.rules.proofs.Squares.{amount-idle}
-use Rattle.calls.specs.declared.answer.Answer.{Answer}
 use Rattle.calls.specs.declared.answer.Answer.the-variants.{Accepted, Refused}
 use Rattle.calls.specs.declared.answer.Judged.{Judged as CodeJudged}
-use Rattle.calls.specs.declared.answer.Judged.the-variants.{Passes, Stops}
+use Rattle.calls.specs.declared.answer.Judged.the-variants.{Stops}
 use Rattle.calls.specs.declared.answer.Refusal.{Refusal}
 use Rattle.calls.specs.Answer.{judged-as}
 use Rattle.calls.specs.Answer as told
 use Rattle.calls.specs.Given.{lent}
-use Rattle.calls.specs.Promise.{Slice, slice}
+use Rattle.calls.specs.Promise.{slice}
 use Rattle.calls.proofs.Shapes.{shaped}
-use Rattle.calls.proofs.Untouched.{judged-writes, searched-is, buffer-untouched}
-use Rattle.calls.proofs.Promises.{promised-refused}
+use Rattle.calls.proofs.Untouched.{judged-writes, buffer-untouched}
+use Rattle.calls.proofs.Promises.{promised-refused, still-zero}
 use Rattle.spread.proofs.Results.{laws-within}
 use Rattle.sums.specs.FromAmounts.{SearchingAll, SearchedAll}
 use Rattle.sums.specs.Promise.{PromisedGains, Sums, summed}
@@ -70,7 +69,7 @@ pub summed-promised :
     → Sums size times amounts limit answer distances marks added queue → SearchedAll size times amounts limit answer₁ distances₁ marks₁ added₁ queue₁ t
     → answer₂ ≡ answer₁ → distances₂ ≡ replicate (length distances₁) plus-zero → marks₂ ≡ replicate (length marks₁) 0
     → added₂ ≡ replicate (length added₁) 0 → queue₂ ≡ replicate (length queue₁) 0
-    → PromisedGains (summed size times amounts limit) (Accepted (record { takes = t })) (slice answer answer₂) (slice distances distances₂) (slice marks marks₂) (slice added added₂) (slice queue queue₂)
+    → PromisedGains (Accepted (record { takes = t })) (slice answer answer₂) (slice distances distances₂) (slice marks marks₂) (slice added added₂) (slice queue queue₂) (summed size times amounts limit)
 unfolding summed
 summed-promised asked found settled distances-zeroed marks-zeroed added-zeroed queue-zeroed =
     let before = asked .asked .lengths in
@@ -79,30 +78,24 @@ summed-promised asked found settled distances-zeroed marks-zeroed added-zeroed q
       promised = record {
         says = ap told.takes (found .counted);
         answer-left = settled ∙ found .gained;
-        marks-left = marks-zeroed ∙ ap (λ n. replicate n 0) (after .marks-length ∙ sym (before .marks-length));
-        queue-left = queue-zeroed ∙ ap (λ n. replicate n 0) (after .queue-length ∙ sym (before .queue-length));
+        marks-left = still-zero 0 marks-zeroed (after .marks-length) (before .marks-length);
+        queue-left = still-zero 0 queue-zeroed (after .queue-length) (before .queue-length);
       };
-      distances-left = distances-zeroed ∙ ap (λ n. replicate n plus-zero) (after .distances-length ∙ sym (before .distances-length));
-      added-left = added-zeroed ∙ ap (λ n. replicate n 0) (after .added-length ∙ sym (before .added-length));
+      distances-left = still-zero plus-zero distances-zeroed (after .distances-length) (before .distances-length);
+      added-left = still-zero 0 added-zeroed (after .added-length) (before .added-length);
     }
 
--- ---- the promise of the call, from its judgement
+-- ---- a refused call
 
 module _ {refusals : Judged} (search : Unit {0} → Outcome) (judged : CodeJudged) (means : judged-as judged ≡ refusals) where
   pub gains-refused :
       {refusal : Refusal} → judged ≡ Stops refusal → judged-writes refusals ≡ false → (answer distances : List Float) (marks added queue : List ℕ)
-      → PromisedGains (unless refusals search) (Refused refusal) (slice answer answer) (slice distances distances) (slice marks marks) (slice added added) (slice queue queue)
+      → PromisedGains (Refused refusal) (slice answer answer) (slice distances distances) (slice marks marks) (slice added added) (slice queue queue) (unless refusals search)
   gains-refused is quiet answer distances marks added queue = record {
     promised = promised-refused search judged means is quiet answer marks queue;
     distances-left = buffer-untouched search judged means is quiet plus-zero distances;
     added-left = buffer-untouched search judged means is quiet 0 added;
   }
-
-  pub gains-searched :
-      {found : Outcome} {r : Answer} {answer distances : Slice Float} {marks added queue : Slice ℕ} → judged ≡ Passes → found ≡ search tt
-      → PromisedGains found r answer distances marks added queue → PromisedGains (unless refusals search) r answer distances marks added queue
-  gains-searched {r = r} {answer} {distances} {marks} {added} {queue} is same kept =
-      subst (λ (outcome : Outcome). PromisedGains outcome r answer distances marks added queue) (same ∙ sym (searched-is search judged means is)) kept
 
 -- ---- the tests
 

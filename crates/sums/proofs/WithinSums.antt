@@ -15,15 +15,15 @@ use Rattle.rules.proofs.Nets.{mask-cell-laws}
 use Rattle.calls.specs.declared.answer.Answer.{Answer}
 use Rattle.calls.specs.declared.answer.Answer.the-variants.{Accepted, Refused}
 use Rattle.calls.specs.declared.answer.Judged.{Judged as CodeJudged}
-use Rattle.calls.specs.declared.answer.Judged.the-variants.{Passes, Stops}
+use Rattle.calls.specs.declared.answer.Judged.the-variants.{Stops}
 use Rattle.calls.specs.declared.answer.Refusal.{Refusal}
 use Rattle.calls.specs.declared.answer.Refusal.the-variants.{OverBudget}
 use Rattle.calls.specs.Answer.{judged-as, tell, answer-after, buffer-after}
 use Rattle.calls.specs.Given.{lent}
-use Rattle.calls.specs.Promise.{Slice, slice}
+use Rattle.calls.specs.Promise.{slice}
 use Rattle.calls.proofs.Shapes.{shaped}
-use Rattle.calls.proofs.Untouched.{judged-writes, searched-is, buffer-untouched}
-use Rattle.calls.proofs.Promises.{promised-refused}
+use Rattle.calls.proofs.Untouched.{judged-writes, buffer-untouched}
+use Rattle.calls.proofs.Promises.{promised-refused, still-zero}
 use Rattle.spread.proofs.Results.{laws-within}
 use Rattle.sums.specs.declared.mask.Found.{Found}
 use Rattle.sums.specs.declared.mask.Found.the-variants.{All, Over}
@@ -83,42 +83,35 @@ pub mask-promised :
     → SearchedMask size mask times values limit include-adjacent answer₁ distances₁ marks₁ listed₁ met₁ queue₁ found
     → distances₂ ≡ replicate (length distances₁) plus-zero → marks₂ ≡ replicate (length marks₁) 0 → listed₂ ≡ replicate (length listed₁) 0
     → met₂ ≡ replicate (length met₁) 0 → queue₂ ≡ replicate (length queue₁) 0 → LeftAnswer found answer₁ answer₂ r
-    → PromisedSums (mask-outcome size mask times values limit include-adjacent) r (slice answer answer₂) (slice distances distances₂) (slice marks marks₂) (slice listed listed₂) (slice met met₂) (slice queue queue₂)
-mask-promised {answer = answer} {distances} {marks} {listed} {met} {queue} {answer₁} {answer₂ = answer₂} {distances₂} {marks₂ = marks₂} {listed₂} {met₂} {queue₂} {found} {r}
+    → PromisedSums r (slice answer answer₂) (slice distances distances₂) (slice marks marks₂) (slice listed listed₂) (slice met met₂) (slice queue queue₂) (mask-outcome size mask times values limit include-adjacent)
+mask-promised {answer = answer} {distances} {marks} {listed} {met} {queue} {answer₁} {found = found}
     given searched distances-zeroed marks-zeroed listed-zeroed met-zeroed queue-zeroed left =
     let before = given .lengths in
     let after = searched .lengths in
-    subst (λ (outcome : Outcome). PromisedSums outcome r (slice answer answer₂) (slice distances distances₂) (slice marks marks₂) (slice listed listed₂) (slice met met₂) (slice queue queue₂))
-    (searched .outcome) (record {
+    subst (PromisedSums _ _ _ _ _ _ _) (searched .outcome) (record {
       promised = record {
         says = left .says;
         answer-left = left .answer-left ∙ left-alike found answer₁ answer (searched .answer-length ∙ sym (given .answer-length));
-        marks-left = marks-zeroed ∙ ap (λ n. replicate n 0) (after .marks-length ∙ sym (before .marks-length)) ∙ found-zeroes 0 found answer₁ marks;
-        queue-left = queue-zeroed ∙ ap (λ n. replicate n 0) (after .queue-length ∙ sym (before .queue-length)) ∙ found-zeroes 0 found answer₁ queue;
+        marks-left = still-zero 0 marks-zeroed (after .marks-length) (before .marks-length) ∙ found-zeroes 0 found answer₁ marks;
+        queue-left = still-zero 0 queue-zeroed (after .queue-length) (before .queue-length) ∙ found-zeroes 0 found answer₁ queue;
       };
-      distances-left = distances-zeroed ∙ ap (λ n. replicate n plus-zero) (after .distances-length ∙ sym (before .distances-length)) ∙ found-zeroes plus-zero found answer₁ distances;
-      listed-left = listed-zeroed ∙ ap (λ n. replicate n 0) (after .listed-length ∙ sym (before .listed-length)) ∙ found-zeroes 0 found answer₁ listed;
-      adjacent-left = met-zeroed ∙ ap (λ n. replicate n 0) (after .met-length ∙ sym (before .met-length)) ∙ found-zeroes 0 found answer₁ met;
+      distances-left = still-zero plus-zero distances-zeroed (after .distances-length) (before .distances-length) ∙ found-zeroes plus-zero found answer₁ distances;
+      listed-left = still-zero 0 listed-zeroed (after .listed-length) (before .listed-length) ∙ found-zeroes 0 found answer₁ listed;
+      adjacent-left = still-zero 0 met-zeroed (after .met-length) (before .met-length) ∙ found-zeroes 0 found answer₁ met;
     })
 
--- ---- the promise of the call, from its judgement
+-- ---- a refused call
 
 module _ {refusals : Judged} (search : Unit {0} → Outcome) (judged : CodeJudged) (means : judged-as judged ≡ refusals) where
   pub sums-refused :
       {refusal : Refusal} → judged ≡ Stops refusal → judged-writes refusals ≡ false → (answer distances : List Float) (marks listed adjacent queue : List ℕ)
-      → PromisedSums (unless refusals search) (Refused refusal) (slice answer answer) (slice distances distances) (slice marks marks) (slice listed listed) (slice adjacent adjacent) (slice queue queue)
+      → PromisedSums (Refused refusal) (slice answer answer) (slice distances distances) (slice marks marks) (slice listed listed) (slice adjacent adjacent) (slice queue queue) (unless refusals search)
   sums-refused is quiet answer distances marks listed adjacent queue = record {
     promised = promised-refused search judged means is quiet answer marks queue;
     distances-left = buffer-untouched search judged means is quiet plus-zero distances;
     listed-left = buffer-untouched search judged means is quiet 0 listed;
     adjacent-left = buffer-untouched search judged means is quiet 0 adjacent;
   }
-
-  pub sums-searched :
-      {found : Outcome} {r : Answer} {answer distances : Slice Float} {marks listed adjacent queue : Slice ℕ} → judged ≡ Passes → found ≡ search tt
-      → PromisedSums found r answer distances marks listed adjacent queue → PromisedSums (unless refusals search) r answer distances marks listed adjacent queue
-  sums-searched {r = r} {answer} {distances} {marks} {listed} {adjacent} {queue} is same kept =
-      subst (λ (outcome : Outcome). PromisedSums outcome r answer distances marks listed adjacent queue) (same ∙ sym (searched-is search judged means is)) kept
 
 -- ---- the tests
 

@@ -19,8 +19,8 @@ use Rattle.sums.specs.FromAmounts.{Searching}
 
 -- What every search promises, and the same of the buffers of distances, of the listed cells, and of the marks for these and for the cells added
 -- beside them (`adjacent`).
-pub record PromisedSums (outcome : Outcome) (r : Answer) (answer distances : Slice Float) (marks listed adjacent queue : Slice ℕ) : Type 0 where
-  pub promised : Promised outcome r answer marks queue
+pub record PromisedSums (r : Answer) (answer distances : Slice Float) (marks listed adjacent queue : Slice ℕ) (outcome : Outcome) : Type 0 where
+  pub promised : Promised r answer marks queue outcome
   pub distances-left : distances .after ≡ buffer-after plus-zero outcome (distances .before)
   pub listed-left : listed .after ≡ buffer-after 0 outcome (listed .before)
   pub adjacent-left : adjacent .after ≡ buffer-after 0 outcome (adjacent .before)
@@ -32,13 +32,13 @@ lengths-7 answer distances marks listed adjacent queue =
 
 abbrev pub SumWithinTravelDistance : Size → List ℕ → Size → List Float → Size → List Float → Float → Bool → Slice Float → Slice Float → Slice ℕ → Slice ℕ → Slice ℕ → Slice ℕ → Answer → Type 0
 SumWithinTravelDistance mask-size mask times-size times values-size values limit include-adjacent answer distances marks listed adjacent queue r =
-    PromisedSums (outcome-7 (grid mask-size mask) (grid times-size times) (grid values-size values) limit include-adjacent (lengths-7 answer distances marks listed adjacent queue)) r answer distances marks listed adjacent queue
+    PromisedSums r answer distances marks listed adjacent queue (outcome-7 (grid mask-size mask) (grid times-size times) (grid values-size values) limit include-adjacent (lengths-7 answer distances marks listed adjacent queue))
 
 -- ---- 8: sum_targets_within_travel_distance
 
 -- What every search promises, and the same of the buffers of distances and of the cells that have gained.
-pub record PromisedGains (outcome : Outcome) (r : Answer) (answer distances : Slice Float) (marks added queue : Slice ℕ) : Type 0 where
-  pub promised : Promised outcome r answer marks queue
+pub record PromisedGains (r : Answer) (answer distances : Slice Float) (marks added queue : Slice ℕ) (outcome : Outcome) : Type 0 where
+  pub promised : Promised r answer marks queue outcome
   pub distances-left : distances .after ≡ buffer-after plus-zero outcome (distances .before)
   pub added-left : added .after ≡ buffer-after 0 outcome (added .before)
 
@@ -49,7 +49,7 @@ lengths-8 answer distances marks added queue =
 
 abbrev pub SumTargetsWithinTravelDistance : Size → List Float → Size → List Float → Float → Slice Float → Slice Float → Slice ℕ → Slice ℕ → Slice ℕ → Answer → Type 0
 SumTargetsWithinTravelDistance times-size times amounts-size amounts limit answer distances marks added queue r =
-    PromisedGains (outcome-8 (grid times-size times) (grid amounts-size amounts) limit (lengths-8 answer distances marks added queue)) r answer distances marks added queue
+    PromisedGains r answer distances marks added queue (outcome-8 (grid times-size times) (grid amounts-size amounts) limit (lengths-8 answer distances marks added queue))
 
 -- Search 8 once no test refuses.
 pub record Sums (size : Size) (times amounts : List Float) (limit : Float) (answer distances : List Float) (marks added queue : List ℕ) : Type 0 where

@@ -25,7 +25,7 @@ fn sum_targets(
     queue: &mut [u32],
 ) -> Answer
     requires { ⌜ Sums size (now times) (now amounts) limit (now answer) (now distances) (now marks) (now added) (now queue) ⌝ }
-    ensures { λ r. ⌜ PromisedGains (summed size (now (times .entry)) (now (amounts .entry)) limit) r (slice (now (answer .entry)) (now (answer .exit))) (slice (now (distances .entry)) (now (distances .exit))) (slice (now (marks .entry)) (now (marks .exit))) (slice (now (added .entry)) (now (added .exit))) (slice (now (queue .entry)) (now (queue .exit))) ⌝ }
+    ensures { λ r. ⌜ PromisedGains r (slice (now (answer .entry)) (now (answer .exit))) (slice (now (distances .entry)) (now (distances .exit))) (slice (now (marks .entry)) (now (marks .exit))) (slice (now (added .entry)) (now (added .exit))) (slice (now (queue .entry)) (now (queue .exit))) (summed size (now (times .entry)) (now (amounts .entry)) limit) ⌝ }
 {
     fill_floats(answer, 0.0);
     let takes = search_amounts(

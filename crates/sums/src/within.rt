@@ -49,7 +49,7 @@ fn sum_mask(
     queue: &mut [u32],
 ) -> Answer
     requires { ⌜ Given size (now mask) (now times) (now values) (now answer) (now distances) (now marks) (now listed) (now met) (now queue) ⌝ }
-    ensures { λ r. ⌜ PromisedSums (mask-outcome size (now (mask .entry)) (now (times .entry)) (now (values .entry)) limit «include_adjacent») r (slice (now (answer .entry)) (now (answer .exit))) (slice (now (distances .entry)) (now (distances .exit))) (slice (now (marks .entry)) (now (marks .exit))) (slice (now (listed .entry)) (now (listed .exit))) (slice (now (met .entry)) (now (met .exit))) (slice (now (queue .entry)) (now (queue .exit))) ⌝ }
+    ensures { λ r. ⌜ PromisedSums r (slice (now (answer .entry)) (now (answer .exit))) (slice (now (distances .entry)) (now (distances .exit))) (slice (now (marks .entry)) (now (marks .exit))) (slice (now (listed .entry)) (now (listed .exit))) (slice (now (met .entry)) (now (met .exit))) (slice (now (queue .entry)) (now (queue .exit))) (mask-outcome size (now (mask .entry)) (now (times .entry)) (now (values .entry)) limit «include_adjacent») ⌝ }
 {
     fill_floats(answer, 0.0);
     let found = search_mask(

@@ -1,10 +1,11 @@
 -- Each promise decides the call: two calls that are given and lent the same answer the same and leave the same. Assumes nothing.
 use mathlib.Core.List.{List}
-use mathlib.Core.Path.{_≡_, sym, _∙_}
+use mathlib.Core.Path.{_≡_}
 use Prim.Native.Nat.{ℕ}
 use lib.Ieee.{Float}
 use Rattle.rules.specs.declared.Size.{Size}
 use Rattle.rules.specs.Sizes.{Outcome}
+use Rattle.rules.proofs.Decided.{equation-decides}
 use Rattle.calls.specs.declared.answer.Answer.{Answer}
 use Rattle.calls.specs.Promise.{slice, Same}
 use Rattle.calls.proofs.Promises.{promise-decides}
@@ -18,10 +19,10 @@ pub record SameValues (r s : Answer) (answer₁ answer₂ distances₁ distances
 -- Two calls that are given and lent the same, and keep the promise, are the same.
 values-decided :
     (outcome : Outcome) {r s : Answer} {answer answer₁ answer₂ distances distances₁ distances₂ : List Float} {marks marks₁ marks₂ queue queue₁ queue₂ : List ℕ}
-    → PromisedValues outcome r (slice answer answer₁) (slice distances distances₁) (slice marks marks₁) (slice queue queue₁)
-    → PromisedValues outcome s (slice answer answer₂) (slice distances distances₂) (slice marks marks₂) (slice queue queue₂)
+    → PromisedValues r (slice answer answer₁) (slice distances distances₁) (slice marks marks₁) (slice queue queue₁) outcome
+    → PromisedValues s (slice answer answer₂) (slice distances distances₂) (slice marks marks₂) (slice queue queue₂) outcome
     → SameValues r s answer₁ answer₂ distances₁ distances₂ marks₁ marks₂ queue₁ queue₂
-values-decided outcome p q = record { same = promise-decides outcome (p .promised) (q .promised); distances = p .distances-left ∙ sym (q .distances-left) }
+values-decided outcome p q = record { same = promise-decides outcome (p .promised) (q .promised); distances = equation-decides (p .distances-left) (q .distances-left) }
 
 -- ---- search 4
 

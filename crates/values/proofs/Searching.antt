@@ -1,7 +1,7 @@
 -- From the tests to the search, and from its labels to the promise. Assumes nothing.
 use mathlib.Core.Bool.{true, false, true≢false}
 use mathlib.Core.List.{List, [], _∷_}
-use mathlib.Core.Path.{_≡_, refl, sym, ap, _∙_, subst}
+use mathlib.Core.Path.{_≡_, refl, sym, ap, _∙_}
 use Prim.Native.Nat.{ℕ, suc, _*_}
 use lib.Dec.{T}
 use lib.Ieee.{Float, nan, binary32, fits, isNan}
@@ -16,17 +16,16 @@ use Rattle.rules.specs.Numbers.{infinity}
 use Rattle.rules.specs.Values.{values-of, closest, closest-by-time, refusals-4, refusals-5, refusals-6}
 use Rattle.rules.proofs.Accepted.{accepted-5, accepted-6}
 use Rattle.rules.proofs.Nets.{closest-laws, closest-by-time-laws}
-use Rattle.calls.specs.declared.answer.Answer.{Answer}
 use Rattle.calls.specs.declared.answer.Answer.the-variants.{Accepted, Refused}
 use Rattle.calls.specs.declared.answer.Judged.{Judged as CodeJudged}
-use Rattle.calls.specs.declared.answer.Judged.the-variants.{Passes, Stops}
+use Rattle.calls.specs.declared.answer.Judged.the-variants.{Stops}
 use Rattle.calls.specs.declared.answer.Refusal.{Refusal}
 use Rattle.calls.specs.Answer.{takes, judged-as}
 use Rattle.calls.specs.Given.{lent}
-use Rattle.calls.specs.Promise.{Slice, slice}
+use Rattle.calls.specs.Promise.{slice}
 use Rattle.calls.proofs.Shapes.{Shaped, shaped}
-use Rattle.calls.proofs.Untouched.{judged-writes, searched-is, buffer-untouched}
-use Rattle.calls.proofs.Promises.{promised-refused}
+use Rattle.calls.proofs.Untouched.{judged-writes, buffer-untouched}
+use Rattle.calls.proofs.Promises.{promised-refused, still-zero}
 use Rattle.spread.specs.declared.search.Rule.the-variants.{Closest, ByTime}
 use Rattle.spread.specs.declared.search.Search.{Search}
 use Rattle.spread.specs.Nets.{Grids, carries, reads-times}
@@ -47,7 +46,7 @@ pub searched-promised :
     {search : Search} {of : Grids} {answer distances answer₁ distances₁ answer₂ distances₂ : List Float} {marks marks₁ marks₂ queue queue₁ queue₂ : List ℕ} {t : ℕ}
     → Searches search of answer distances marks queue → Spread search of answer distances₁ answer₁ marks₁ queue₁ t
     → answer₂ ≡ answer₁ → distances₂ ≡ replicate (length distances₁) plus-zero → marks₂ ≡ replicate (length marks₁) 0 → queue₂ ≡ replicate (length queue₁) 0
-    → PromisedValues (searched search of) (Accepted (record { takes = t })) (slice answer answer₂) (slice distances distances₂) (slice marks marks₂) (slice queue queue₂)
+    → PromisedValues (Accepted (record { takes = t })) (slice answer answer₂) (slice distances distances₂) (slice marks marks₂) (slice queue queue₂) (searched search of)
 unfolding searched
 searched-promised asked found settled distances-zeroed marks-zeroed queue-zeroed =
     let before = asked .spreads .lengths in
@@ -56,28 +55,22 @@ searched-promised asked found settled distances-zeroed marks-zeroed queue-zeroed
       promised = record {
         says = ap takes (found .counted);
         answer-left = settled ∙ values-are found (asked .carrying);
-        marks-left = marks-zeroed ∙ ap (λ n. replicate n 0) (after .marks-length ∙ sym (before .marks-length));
-        queue-left = queue-zeroed ∙ ap (λ n. replicate n 0) (after .queue-length ∙ sym (before .queue-length));
+        marks-left = still-zero 0 marks-zeroed (after .marks-length) (before .marks-length);
+        queue-left = still-zero 0 queue-zeroed (after .queue-length) (before .queue-length);
       };
-      distances-left = distances-zeroed ∙ ap (λ n. replicate n plus-zero) (after .distances-length ∙ sym (before .distances-length));
+      distances-left = still-zero plus-zero distances-zeroed (after .distances-length) (before .distances-length);
     }
 
--- ---- the promise of a call, from its judgement
+-- ---- a refused call
 
 module _ {refusals : Judged} (search : Unit {0} → Outcome) (judged : CodeJudged) (means : judged-as judged ≡ refusals) where
   pub values-refused :
       {refusal : Refusal} → judged ≡ Stops refusal → judged-writes refusals ≡ false → (answer distances : List Float) (marks queue : List ℕ)
-      → PromisedValues (unless refusals search) (Refused refusal) (slice answer answer) (slice distances distances) (slice marks marks) (slice queue queue)
+      → PromisedValues (Refused refusal) (slice answer answer) (slice distances distances) (slice marks marks) (slice queue queue) (unless refusals search)
   values-refused is quiet answer distances marks queue = record {
     promised = promised-refused search judged means is quiet answer marks queue;
     distances-left = buffer-untouched search judged means is quiet plus-zero distances;
   }
-
-  pub values-searched :
-      {found : Outcome} {r : Answer} {answer distances : Slice Float} {marks queue : Slice ℕ} → judged ≡ Passes → found ≡ search tt
-      → PromisedValues found r answer distances marks queue → PromisedValues (unless refusals search) r answer distances marks queue
-  values-searched {r = r} {answer} {distances} {marks} {queue} is same kept =
-      subst (λ (outcome : Outcome). PromisedValues outcome r answer distances marks queue) (same ∙ sym (searched-is search judged means is)) kept
 
 -- ---- before the search
 

@@ -19,8 +19,8 @@ use Rattle.spread.specs.Nets.{Grids, net-of, carries}
 use Rattle.spread.specs.Promise.{Spreads}
 
 -- What every search promises, and the same of the buffer of distances.
-pub record PromisedValues (outcome : Outcome) (r : Answer) (answer distances : Slice Float) (marks queue : Slice ℕ) : Type 0 where
-  pub promised : Promised outcome r answer marks queue
+pub record PromisedValues (r : Answer) (answer distances : Slice Float) (marks queue : Slice ℕ) (outcome : Outcome) : Type 0 where
+  pub promised : Promised r answer marks queue outcome
   pub distances-left : distances .after ≡ buffer-after plus-zero outcome (distances .before)
 
 -- The lengths of what these searches are lent: the answer, the distances and the marks, and the queue.
@@ -30,17 +30,17 @@ lengths answer distances marks queue = lent (length (answer .before) ∷ length 
 -- 4: value_at_closest_target.
 abbrev pub ValueAtClosestTarget : Size → List ℕ → Size → List Float → Slice Float → Slice Float → Slice ℕ → Slice ℕ → Answer → Type 0
 ValueAtClosestTarget targets-size targets values-size values answer distances marks queue r =
-    PromisedValues (outcome-4 (grid targets-size targets) (grid values-size values) (lengths answer distances marks queue)) r answer distances marks queue
+    PromisedValues r answer distances marks queue (outcome-4 (grid targets-size targets) (grid values-size values) (lengths answer distances marks queue))
 
 -- 5: value_at_closest_travel_target.
 abbrev pub ValueAtClosestTravelTarget : Size → List ℕ → Size → List Float → Size → List Float → Slice Float → Slice Float → Slice ℕ → Slice ℕ → Answer → Type 0
 ValueAtClosestTravelTarget targets-size targets times-size times values-size values answer distances marks queue r =
-    PromisedValues (outcome-5 (grid targets-size targets) (grid times-size times) (grid values-size values) (lengths answer distances marks queue)) r answer distances marks queue
+    PromisedValues r answer distances marks queue (outcome-5 (grid targets-size targets) (grid times-size times) (grid values-size values) (lengths answer distances marks queue))
 
 -- 6: value_at_closest_less_than_travel_target.
 abbrev pub ValueAtClosestLessThanTravelTarget : Size → List ℕ → Size → List Float → Size → List Float → Float → Slice Float → Slice Float → Slice ℕ → Slice ℕ → Answer → Type 0
 ValueAtClosestLessThanTravelTarget targets-size targets times-size times values-size values limit answer distances marks queue r =
-    PromisedValues (outcome-6 (grid targets-size targets) (grid times-size times) (grid values-size values) limit (lengths answer distances marks queue)) r answer distances marks queue
+    PromisedValues r answer distances marks queue (outcome-6 (grid targets-size targets) (grid times-size times) (grid values-size values) limit (lengths answer distances marks queue))
 
 -- ---- the search once no test refuses
 

@@ -24,7 +24,7 @@ pub fn search_values(
     queue: &mut [u32],
 ) -> Answer
     requires { ⌜ Searches search (grids (now targets) (now targets) (now times) (now values)) (now answer) (now distances) (now marks) (now queue) ⌝ }
-    ensures { λ r. ⌜ PromisedValues (searched search (grids (now (targets .entry)) (now (targets .entry)) (now (times .entry)) (now (values .entry)))) r (slice (now (answer .entry)) (now (answer .exit))) (slice (now (distances .entry)) (now (distances .exit))) (slice (now (marks .entry)) (now (marks .exit))) (slice (now (queue .entry)) (now (queue .exit))) ⌝ }
+    ensures { λ r. ⌜ PromisedValues r (slice (now (answer .entry)) (now (answer .exit))) (slice (now (distances .entry)) (now (distances .exit))) (slice (now (marks .entry)) (now (marks .exit))) (slice (now (queue .entry)) (now (queue .exit))) (searched search (grids (now (targets .entry)) (now (targets .entry)) (now (times .entry)) (now (values .entry)))) ⌝ }
 {
     let takes = spread(
         search,

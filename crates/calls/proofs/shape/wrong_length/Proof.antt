@@ -23,8 +23,8 @@ returns c =
     let args = tested .before .before .before .before .args in
     let counted = tested .before .cell-count .ensures in
     ⊎-elim
-    (λ w. input-wrong (args .size) (args .inputs .now) (args .slices .now) (args .queue) counted (said (tested .any-other .ensures) (w .taken)))
-    (λ w. slice-wrong (args .size) (args .inputs .now) (args .slices .now) (args .queue) counted (said (w .1 .ensures) (w .2 .taken)))
+    (λ w. input-wrong (args .size) (args .input-lengths .now) (args .lent-lengths .now) (args .queue-length) counted (said (tested .any-other .ensures) (w .taken)))
+    (λ w. slice-wrong (args .size) (args .input-lengths .now) (args .lent-lengths .now) (args .queue-length) counted (said (w .1 .ensures) (w .2 .taken)))
     (c .if1 .came)
 
 add-result : tie.Need-add-result
@@ -39,7 +39,7 @@ returns-2 : tie.Need-returns-2
 returns-2 c =
     let first = c .before .before in
     let args = first .before .before .before .before .before .args in
-    queue-decides (args .size) (args .inputs .now) (args .slices .now) (args .queue) (first .before .before .cell-count .ensures)
+    queue-decides (args .size) (args .input-lengths .now) (args .lent-lengths .now) (args .queue-length) (first .before .before .cell-count .ensures)
     (said (first .before .any-other .ensures) (first .if1 .left))
     (said (c .before .any-other2 .ensures) (c .if2 .left))
 

@@ -3,6 +3,7 @@ use borrow.Author.Needs.{needs}
 use denote.Ref.{now}
 use Rattle.binary32.specs.Numbers.{plus-zero}
 use Rattle.rules.specs.Distances.{outcome-2}
+use Rattle.calls.specs.Promise.{Promised}
 use Rattle.calls.proofs.Untouched.{quiet-2}
 use Rattle.calls.proofs.Promises.{refuses-none, promised-refused, promised-searched}
 use Rattle.distances.proofs.Searching.{obstacles-searches, obstacles-searched}
@@ -51,7 +52,7 @@ returns-2 c =
     let passed = found .before .before .before .before in
     let judged = passed .before .before in
     let a = judged .before .before .before .before .before .before .before .args in
-    promised-searched _ (judged .judge-2 .result) (judged .judge-2 .ensures) (passed .enum-told .given .1)
+    promised-searched _ (judged .judge-2 .result) (judged .judge-2 .ensures) (Promised _ _ _ _) (passed .enum-told .given .1)
     (obstacles-searched (a .targets-size) (now (a .targets)) (now (a .obstacles)) (a .spacing) (a .diagonals) plus-zero (a .obstacles-size) _
     (refuses-none (judged .judge-2 .ensures) (passed .enum-told .given .1)))
     (found .search-distances .ensures)

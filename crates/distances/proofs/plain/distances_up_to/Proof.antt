@@ -2,6 +2,7 @@
 use borrow.Author.Needs.{needs}
 use denote.Ref.{now}
 use Rattle.rules.specs.Distances.{outcome-1}
+use Rattle.calls.specs.Promise.{Promised}
 use Rattle.calls.proofs.Untouched.{quiet-1}
 use Rattle.calls.proofs.Promises.{refuses-none, promised-refused, promised-searched}
 use Rattle.distances.proofs.Searching.{plain-searches, plain-searched}
@@ -50,7 +51,7 @@ returns-2 c =
     let passed = found .before .before .before .before in
     let judged = passed .before .before in
     let start = judged .before .before .before .before .before .before in
-    promised-searched _ (judged .judge-1 .result) (judged .judge-1 .ensures) (passed .enum-told .given .1)
+    promised-searched _ (judged .judge-1 .result) (judged .judge-1 .ensures) (Promised _ _ _ _) (passed .enum-told .given .1)
     (plain-searched (start .args .size) (now (start .args .targets)) (start .args .spacing)) (found .search-distances .ensures)
 
 pub distances-up-to-spec : {M : Type 1} → statement M

@@ -1,6 +1,7 @@
 -- `travel::travel_distances_up_to` meets its contract. Assumes nothing.
 use denote.Ref.{now}
 use Rattle.rules.specs.Distances.{outcome-3}
+use Rattle.calls.specs.Promise.{Promised}
 use Rattle.calls.proofs.Untouched.{quiet-3}
 use Rattle.calls.proofs.Promises.{refuses-none, promised-refused, promised-searched}
 use Rattle.distances.proofs.Searching.{travel-searches, travel-found}
@@ -41,7 +42,7 @@ same-length-3 c = search needs
 returns-2 : tie.Need-returns-2
 unfolding outcome-3
 returns-2 c = let a = c .before .before .before .before .before .before .before .before .before .before .before .before .before .before .before .before .before .before .before .args in
-    promised-searched _ (c .before .before .before .before .before .before .before .before .before .before .before .before .judge-3 .result) (c .before .before .before .before .before .before .before .before .before .before .before .before .judge-3 .ensures) (c .before .before .before .before .before .before .before .before .before .before .enum-told .given .1)
+    promised-searched _ (c .before .before .before .before .before .before .before .before .before .before .before .before .judge-3 .result) (c .before .before .before .before .before .before .before .before .before .before .before .before .judge-3 .ensures) (Promised _ _ _ _) (c .before .before .before .before .before .before .before .before .before .before .enum-told .given .1)
     (travel-found (a .targets-size) (now (a .targets)) (a .times-size) (now (a .times)) (a .limit) _ (refuses-none (c .before .before .before .before .before .before .before .before .before .before .before .before .judge-3 .ensures) (c .before .before .before .before .before .before .before .before .before .before .enum-told .given .1)))
     (c .before .before .before .before .before .before .search-travel .ensures)
 

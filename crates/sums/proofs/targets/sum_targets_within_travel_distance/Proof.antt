@@ -2,8 +2,9 @@
 use denote.Ref.{now}
 use Rattle.rules.specs.Sums.{outcome-8}
 use Rattle.calls.proofs.Untouched.{quiet-8}
-use Rattle.calls.proofs.Promises.{refuses-none}
-use Rattle.sums.proofs.TargetSums.{sums-ask, sums-are, gains-refused, gains-searched}
+use Rattle.calls.proofs.Promises.{refuses-none, promised-searched}
+use Rattle.sums.specs.Promise.{PromisedGains}
+use Rattle.sums.proofs.TargetSums.{sums-ask, sums-are, gains-refused}
 use borrow.Author.Needs.{needs}
 use Rattle.sums.proofs.targets.sum_targets_within_travel_distance.Statement.{statement}
 use Rattle.sums.proofs.targets.sum_targets_within_travel_distance.Tie as tie
@@ -57,7 +58,7 @@ returns-2 c =
     let passed = c .before .before .before .before .before .before .before .before .before .before .before .before .before .before .before .before in
     let judged = c .before .before .before .before .before .before .before .before .before .before .before .before .before .before .before .before .before .before in
     let a = c .before .before .before .before .before .before .before .before .before .before .before .before .before .before .before .before .before .before .before .before .before .before .before .before .before .before .before .args in
-    gains-searched _ (judged .judge-8 .result) (judged .judge-8 .ensures) (passed .enum-told .given .1)
+    promised-searched _ (judged .judge-8 .result) (judged .judge-8 .ensures) (PromisedGains _ _ _ _ _ _) (passed .enum-told .given .1)
     (sums-are (a .times-size) (now (a .times)) (a .amounts-size) (now (a .amounts)) (a .limit) _ (refuses-none (judged .judge-8 .ensures) (passed .enum-told .given .1)))
     (c .before .before .before .before .before .before .before .before .before .before .sum-targets .ensures)
 

@@ -2,8 +2,9 @@
 use denote.Ref.{now}
 use Rattle.rules.specs.Sums.{outcome-7}
 use Rattle.calls.proofs.Untouched.{quiet-7}
-use Rattle.calls.proofs.Promises.{refuses-none}
-use Rattle.sums.proofs.WithinSums.{mask-given, mask-outcome-is, sums-refused, sums-searched}
+use Rattle.calls.proofs.Promises.{refuses-none, promised-searched}
+use Rattle.sums.specs.Promise.{PromisedSums}
+use Rattle.sums.proofs.WithinSums.{mask-given, mask-outcome-is, sums-refused}
 use borrow.Author.Needs.{needs}
 use Rattle.sums.proofs.within.sum_within_travel_distance.Statement.{statement}
 use Rattle.sums.proofs.within.sum_within_travel_distance.Tie as tie
@@ -59,7 +60,7 @@ returns-2 c =
     let passed = c .before .before .before .before .before .before .before .before .before .before .before .before .before .before .before .before .before .before .before in
     let judged = c .before .before .before .before .before .before .before .before .before .before .before .before .before .before .before .before .before .before .before .before .before in
     let a = c .before .before .before .before .before .before .before .before .before .before .before .before .before .before .before .before .before .before .before .before .before .before .before .before .before .before .before .before .before .before .before .before .args in
-    sums-searched _ (judged .judge-7 .result) (judged .judge-7 .ensures) (passed .enum-told .given .1)
+    promised-searched _ (judged .judge-7 .result) (judged .judge-7 .ensures) (PromisedSums _ _ _ _ _ _ _) (passed .enum-told .given .1)
     (mask-outcome-is (a .mask-size) (now (a .mask)) (a .times-size) (now (a .times)) (a .values-size) (now (a .values)) (a .limit) (a .include-adjacent) _
     (refuses-none (judged .judge-7 .ensures) (passed .enum-told .given .1)))
     (c .before .before .before .before .before .before .before .before .before .before .before .before .sum-mask .ensures)

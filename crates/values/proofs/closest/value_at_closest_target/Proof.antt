@@ -4,8 +4,9 @@ use denote.Ref.{now}
 use Rattle.binary32.specs.Numbers.{plus-zero}
 use Rattle.rules.specs.Values.{outcome-4}
 use Rattle.calls.proofs.Untouched.{quiet-4}
-use Rattle.calls.proofs.Promises.{refuses-none}
-use Rattle.values.proofs.Searching.{closest-searches, closest-searched, values-refused, values-searched}
+use Rattle.calls.proofs.Promises.{refuses-none, promised-searched}
+use Rattle.values.specs.Promise.{PromisedValues}
+use Rattle.values.proofs.Searching.{closest-searches, closest-searched, values-refused}
 use Rattle.values.proofs.closest.value_at_closest_target.Statement.{statement}
 use Rattle.values.proofs.closest.value_at_closest_target.Tie as tie
 
@@ -54,7 +55,7 @@ returns-2 c =
     let passed = found .before .before .before .before .before in
     let judged = passed .before .before in
     let a = judged .before .before .before .before .before .before .before .before .args in
-    values-searched _ (judged .judge-4 .result) (judged .judge-4 .ensures) (passed .enum-told .given .1)
+    promised-searched _ (judged .judge-4 .result) (judged .judge-4 .ensures) (PromisedValues _ _ _ _ _) (passed .enum-told .given .1)
     (closest-searched (a .targets-size) (now (a .targets)) (a .values-size) (now (a .values)) plus-zero _
     (refuses-none (judged .judge-4 .ensures) (passed .enum-told .given .1)))
     (found .search-values .ensures)

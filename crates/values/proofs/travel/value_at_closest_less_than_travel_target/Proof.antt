@@ -2,8 +2,9 @@
 use denote.Ref.{now}
 use Rattle.rules.specs.Values.{outcome-6}
 use Rattle.calls.proofs.Untouched.{quiet-6}
-use Rattle.calls.proofs.Promises.{refuses-none}
-use Rattle.values.proofs.Searching.{searches-6, searched-6, values-refused, values-searched}
+use Rattle.calls.proofs.Promises.{refuses-none, promised-searched}
+use Rattle.values.specs.Promise.{PromisedValues}
+use Rattle.values.proofs.Searching.{searches-6, searched-6, values-refused}
 use borrow.Author.Needs.{needs}
 use Rattle.values.proofs.travel.value_at_closest_less_than_travel_target.Statement.{
   statement,
@@ -46,7 +47,7 @@ same-length-4 c = search needs
 returns-2 : tie.Need-returns-2
 unfolding outcome-6
 returns-2 c = let a = c .before .before .before .before .before .before .before .before .before .before .before .before .before .before .before .before .before .before .before .before .before .before .before .before .args in
-    values-searched _ (c .before .before .before .before .before .before .before .before .before .before .before .before .before .before .before .judge-6 .result) (c .before .before .before .before .before .before .before .before .before .before .before .before .before .before .before .judge-6 .ensures) (c .before .before .before .before .before .before .before .before .before .before .before .before .before .enum-told .given .1)
+    promised-searched _ (c .before .before .before .before .before .before .before .before .before .before .before .before .before .before .before .judge-6 .result) (c .before .before .before .before .before .before .before .before .before .before .before .before .before .before .before .judge-6 .ensures) (PromisedValues _ _ _ _ _) (c .before .before .before .before .before .before .before .before .before .before .before .before .before .enum-told .given .1)
     (searched-6 (a .targets-size) (now (a .targets)) (a .times-size) (now (a .times)) (a .values-size) (now (a .values)) (a .limit) (now (a .answer)) (now (a .distances)) (now (a .marks)) (now (a .queue))
     (refuses-none (c .before .before .before .before .before .before .before .before .before .before .before .before .before .before .before .judge-6 .ensures) (c .before .before .before .before .before .before .before .before .before .before .before .before .before .enum-told .given .1)))
     (c .before .before .before .before .before .before .before .before .search-values .ensures)
