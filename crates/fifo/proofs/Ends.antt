@@ -11,7 +11,8 @@ use Rattle.fifo.specs.Machine.{Net, State, passing, initial, label, take
 use Rattle.fifo.specs.Walk.{In}
 use Rattle.fifo.specs.Laws.{room, Enterable, Laws, Sound}
 use Rattle.fifo.specs.Simulation.{Within}
-use Rattle.fifo.proofs.Lists.{tested, true-or-false, same-or-not, in-back, joined-cases, without, length-without, in-without, no-dup-no-longer, in-passing, empty-or-not}
+use Rattle.fifo.proofs.Lists.{tested, true-or-false, same-or-not, in-back, joined-cases, without, length-without, in-without, no-dup-no-longer, empty-or-not}
+use Rattle.fifo.proofs.Ranges.{in-passing}
 use Rattle.fifo.proofs.Induction.{awaiting, label-awaiting, label-unstored, after-store, waiting-store, Kept, take-keeps, take-appends, run-keeps, run-zero, run-head, takes-stopped}
 use Rattle.fifo.proofs.Runs.{takes-add, takes-at-most, stops-by, run-past}
 use Rattle.fifo.proofs.Order.{not-below-itself}

@@ -6,7 +6,8 @@ use mathlib.Core.Path.{_≡_, refl, sym, ap, _∙_, subst}
 use Prim.Native.Nat.{ℕ, suc}
 use Rattle.fifo.specs.Machine.{Net, State, among, joined, passing, initial, label, take, run, trace}
 use Rattle.fifo.specs.Walk.{In, NoDup}
-use Rattle.fifo.proofs.Lists.{tested, not-among, among-in, in-among, in-snoc, in-back, joined-waiting, joined-new, in-joined, joiner-in, no-dup-passing}
+use Rattle.fifo.proofs.Lists.{tested, not-among, among-in, in-among, in-snoc, in-back, joined-waiting, joined-new, in-joined, joiner-in}
+use Rattle.fifo.proofs.Ranges.{no-dup-passing}
 use Rattle.fifo.proofs.Induction.{waiting-store, entered-store, Kept, take-keeps, run-zero, run-stopped, run-head, trace-zero, trace-stopped, trace-head, by-takes, run-keeps}
 
 -- A list's cells join those that were found, in order: each once, where it comes first.

@@ -1,14 +1,16 @@
--- Ranges of cells: the values of a function over one, and what two functions or two tests have in common there.
-use mathlib.Core.Bool.{Bool, false, cond}
-use mathlib.Core.List.{List, [], _∷_, map}
-use mathlib.Core.Logic.{⊎-elim}
-use mathlib.Core.Path.{_≡_, refl, sym, ap, _∙_}
-use Prim.Native.Nat.{ℕ, zero, suc, _+_, _<_, _≤_}
-use native.Mathlib.Nat.{add-zero, add-suc, suc-add}
+-- Ranges of cells: the values of a function over one, and the cells of one that pass a test.
+use mathlib.Core.Bool.{Bool, true, false, cond}
+use mathlib.Core.List.{List, [], _∷_, _++_, map}
+use mathlib.Core.Logic.{_⊎_, inl, inr, ⊎-elim}
+use mathlib.Core.Path.{_≡_, refl, sym, ap, _∙_, subst}
+use Prim.Native.Nat.{ℕ, zero, suc, _+_, _<_, _≤_, suc-le-suc}
+use native.Mathlib.Nat.{zero-add, add-zero, add-suc, suc-add}
 use native.Mathlib.Omega.{arith}
+use lib.Dec.{T}
 use lib.ListN.{length, getD, set}
-use Rattle.fifo.specs.Machine.{table, passing}
-use Rattle.fifo.proofs.Lists.{same-or-not}
+use Rattle.fifo.specs.Machine.{among, table, passing}
+use Rattle.fifo.specs.Walk.{In, NoDup}
+use Rattle.fifo.proofs.Lists.{by-test, holds, is-true, true-or-false, same-or-not, in-among, no-dup-no-longer}
 
 -- ---- the values of a function
 
@@ -61,6 +63,67 @@ table-reads d (x ∷ xs) = ap (λ l. x ∷ l) (table-later (λ c. getD (x ∷ xs
 
 -- ---- the cells that pass a test
 
+-- A cell of the range that passes is among them.
+pub in-passing : (test : ℕ → Bool) (i k c : ℕ) → i ≤ c → c < i + k → T (test c) → In c (passing test i k)
+unfolding passing
+in-passing test i zero c low high t = absurd (omega arith)
+in-passing test i (suc k) c low high t =
+    let later : i < c → In c (passing test (suc i) k) = λ above. in-passing test (suc i) k c above (omega arith) t in
+    let at-or-above : (c ≡ i) ⊎ (i < c) = ⊎-elim inl (λ other. inr (omega (arith, other))) (same-or-not c i) in
+    let not-at : test i ≡ false → c ≡ i → ⊥ = λ fails p. true-or-false (is-true (test i) (subst (λ x. T (test x)) p t)) fails in
+    by-test (In c) (test i) (λ _. ⊎-elim inl (λ above. inr (later above)) at-or-above) (λ fails. ⊎-elim (λ p. absurd (not-at fails p)) later at-or-above)
+
+-- They are cells of the range, and pass.
+pub passing-in : (test : ℕ → Bool) (i k c : ℕ) → In c (passing test i k) → (i ≤ c) × (c < i + k) × T (test c)
+unfolding passing
+passing-in test i zero c m = absurd m
+passing-in test i (suc k) c m =
+    let later : In c (passing test (suc i) k) → (i ≤ c) × (c < i + suc k) × T (test c) = λ n. one-later (passing-in test (suc i) k c n) in
+    by-test Listed (test i) (λ passes. ⊎-elim (at-once passes) later) (λ _. later) m
+  where
+    Listed : List ℕ → Type 0
+    Listed l = In c l → (i ≤ c) × (c < i + suc k) × T (test c)
+
+    at-once : test i ≡ true → c ≡ i → (i ≤ c) × (c < i + suc k) × T (test c)
+    at-once passes p = (omega arith, omega arith, subst (λ x. T (test x)) (sym p) (holds passes))
+
+    one-later : (suc i ≤ c) × (c < suc i + k) × T (test c) → (i ≤ c) × (c < i + suc k) × T (test c)
+    one-later (low, high, t) = (omega arith, omega arith, t)
+
+-- Each is there once.
+pub no-dup-passing : (test : ℕ → Bool) (i k : ℕ) → NoDup (passing test i k)
+unfolding passing
+no-dup-passing test i zero = tt
+no-dup-passing test i (suc k) =
+    let rest = no-dup-passing test (suc i) k in
+    by-test NoDup (test i) (λ e. (λ m. let r = passing-in test (suc i) k i m in omega (arith, r .0), rest)) (λ e. rest)
+
+-- They are no more than the range has.
+pub length-passing : (test : ℕ → Bool) (i k : ℕ) → length (passing test i k) ≤ k
+unfolding passing
+length-passing test i zero = omega arith
+length-passing test i (suc k) =
+    let rest = length-passing test (suc i) k in
+    let kept : length (passing test (suc i) k) ≤ suc k = omega arith in
+    by-test (λ (l : List ℕ). length l ≤ suc k) (test i) (λ e. suc-le-suc rest) (λ e. kept)
+
+-- A range cut in two.
+pub passing-append : (test : ℕ → Bool) (i j k : ℕ) → passing test i (j + k) ≡ passing test i j ++ passing test (i + j) k
+unfolding passing
+passing-append test i zero k = rw (zero-add, add-zero)
+passing-append test i (suc j) k =
+    let later = ap (λ l. cond (test i) (i ∷ l) l) (passing-append test (suc i) j k) in
+    rw (suc-add, add-suc, ← suc-add) (later ∙ outside (test i) (passing test (suc i) j) (passing test (suc i + j) k))
+  where
+    outside : (b : Bool) (l m : List ℕ) → cond b (i ∷ (l ++ m)) (l ++ m) ≡ cond b (i ∷ l) l ++ m
+    outside true l m = refl
+    outside false l m = refl
+
+-- A range from 0 with one cell more.
+pub passing-last : (test : ℕ → Bool) (k : ℕ) → passing test 0 (k + 1) ≡ passing test 0 k ++ cond (test k) (k ∷ []) []
+unfolding passing
+passing-last test k = passing-append test 0 k 1 ∙ ap (λ n. passing test 0 k ++ cond (test n) (n ∷ []) []) (zero-add k)
+
 -- Tests that agree pass the same cells.
 pub passing-same : (test test′ : ℕ → Bool) → ((c : ℕ) → test c ≡ test′ c) → (i k : ℕ) → passing test i k ≡ passing test′ i k
 unfolding passing
@@ -90,3 +153,14 @@ passing-one test o i (suc k) low high others =
 
     later : (i ≡ o → ⊥) → passing test (suc i) k ≡ cond (test o) (o ∷ []) [] → passing test i (suc k) ≡ cond (test o) (o ∷ []) []
     later other rest = rw (others i other) rest
+
+-- A list of cells below n, each once, that lacks one of them has fewer than n. Proof: with that one they are still cells below n, each
+-- once, and all of them stand in the range of n.
+pub room-for-new : (n v : ℕ) (ws : List ℕ) → NoDup ws → ((c : ℕ) → In c ws → c < n) → v < n → among v ws ≡ false → length ws < n
+room-for-new n v ws single inside below new =
+    let all = passing (λ c. true) 0 n in
+    let has : (c : ℕ) → c < n → In c all = λ c less. in-passing (λ c. true) 0 n c (omega arith) (omega arith) tt in
+    let known : (c : ℕ) → In c (v ∷ ws) → In c all = λ c i. ⊎-elim (λ p. has c (rw p below)) (λ j. has c (inside c j)) i in
+    let fewer = no-dup-no-longer (v ∷ ws) all (λ i. true-or-false (in-among v ws i) new, single) known in
+    let most = length-passing (λ c. true) 0 n in
+    omega arith

@@ -10,8 +10,8 @@ use lib.ListN.{length, getD}
 use Rattle.fifo.specs.Machine.{Net, State, table, passing, initial, label, store, take, run}
 use Rattle.fifo.specs.Walk.{In, NoDup, Starting}
 use Rattle.fifo.specs.Laws.{room, Enterable, Step, Laws, Held, Sound}
-use Rattle.fifo.proofs.Lists.{tested, holds, is-true, true-or-false, joined-cases, no-dup-joined, passing-in, no-dup-passing, length-passing}
-use Rattle.fifo.proofs.Ranges.{length-table, getD-table}
+use Rattle.fifo.proofs.Lists.{tested, holds, is-true, true-or-false, joined-cases, no-dup-joined}
+use Rattle.fifo.proofs.Ranges.{length-table, getD-table, passing-in, no-dup-passing, length-passing}
 use Rattle.fifo.proofs.Induction.{awaiting, after-store, label-unstored, label-awaiting, length-store, waiting-store, Kept, take-keeps, run-keeps}
 use Rattle.fifo.proofs.Order.{not-below-lower}
 

@@ -10,7 +10,8 @@ use lib.Dec.{eqb}
 use lib.ListN.{length, getD, take, set, replicate, length-set, length-append, length-replicate, getD-replicate}
 use lib.Seq.{take-suc-set}
 use Rattle.fifo.specs.Machine.{among, joined}
-use Rattle.fifo.proofs.Lists.{after-set, in-snoc, among-other, among-last, joined-waiting, joined-new, no-dup-joined, room-for-new}
+use Rattle.fifo.proofs.Lists.{after-set, in-snoc, among-other, among-last, joined-waiting, joined-new, no-dup-joined}
+use Rattle.fifo.proofs.Ranges.{room-for-new}
 use Rattle.rules.proofs.Tests.{opposite}
 use Rattle.reach.specs.Listing.{Met, Listing, Joining, Joined, Cells}
 use Rattle.reach.proofs.Reading.{in-take, take-few}

@@ -10,7 +10,8 @@ use lib.Dec.{eqb}
 use lib.Ieee.{Float}
 use Rattle.fifo.specs.Machine.{among, joined, initial, finish}
 use Rattle.fifo.specs.Walk.{In}
-use Rattle.fifo.proofs.Lists.{tested, holds, in-among, in-passing, joined-waiting}
+use Rattle.fifo.proofs.Lists.{tested, holds, in-among, joined-waiting}
+use Rattle.fifo.proofs.Ranges.{in-passing}
 use Rattle.fifo.proofs.Induction.{run-stopped}
 use Rattle.fifo.proofs.Entries.{entered-stays}
 use Rattle.rules.specs.Sizes.{Grid, count}

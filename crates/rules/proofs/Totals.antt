@@ -9,7 +9,7 @@ use lib.Dec.{T}
 use lib.ListN.{length}
 use lib.Ieee.{Float}
 use Rattle.fifo.specs.Machine.{Net, passing, takes-of}
-use Rattle.fifo.proofs.Lists.{length-passing}
+use Rattle.fifo.proofs.Ranges.{length-passing}
 use Rattle.rules.specs.Sizes.{Grid, in-bounds, count}
 use Rattle.rules.specs.Distances.{target}
 use Rattle.rules.specs.Sums.{Run, run-of, total-takes, from-mask-cell, runs-7, from-amount, counts, runs-8}

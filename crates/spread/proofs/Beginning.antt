@@ -11,8 +11,8 @@ use lib.ListN.{length, set, length-set}
 use Rattle.cells.specs.Ring.{NewRing}
 use Rattle.cells.specs.declared.ring.Ring.{Ring}
 use Rattle.fifo.specs.Machine.{table, passing, initial}
-use Rattle.fifo.proofs.Lists.{same-or-not, passing-last}
-use Rattle.fifo.proofs.Ranges.{table-same, passing-none}
+use Rattle.fifo.proofs.Lists.{same-or-not}
+use Rattle.fifo.proofs.Ranges.{table-same, passing-none, passing-last}
 use Rattle.rules.specs.declared.BarrierDiagonals.{BarrierDiagonals}
 use Rattle.rules.specs.Numbers.{infinity, whole}
 use Rattle.rules.specs.Sizes.{count}

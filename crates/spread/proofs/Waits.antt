@@ -13,7 +13,8 @@ use Rattle.cells.specs.declared.ring.Ring.{Ring}
 use Rattle.cells.specs.declared.ring.Taken.{Taken}
 use Rattle.fifo.specs.Machine.{among}
 use Rattle.fifo.specs.Walk.{In, NoDup}
-use Rattle.fifo.proofs.Lists.{after-set, in-snoc, joined-waiting, joined-new, no-dup-joined, not-among, among-other, among-tail, among-last, room-for-new}
+use Rattle.fifo.proofs.Lists.{after-set, in-snoc, joined-waiting, joined-new, no-dup-joined, not-among, among-other, among-tail, among-last}
+use Rattle.fifo.proofs.Ranges.{room-for-new}
 use Rattle.spread.specs.Waiting.{border, Waiting, Beginning, Began, Joining, Joined, TookFirst}
 
 -- ---- marks and ring

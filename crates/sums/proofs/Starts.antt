@@ -11,7 +11,7 @@ use lib.ListN.{length}
 use mir.Syntax.{w64}
 use mir.Val.{Fits}
 use Rattle.fifo.specs.Machine.{Net, passing, takes-of}
-use Rattle.fifo.proofs.Lists.{passing-append, passing-last, length-passing}
+use Rattle.fifo.proofs.Ranges.{passing-append, passing-last, length-passing}
 use Rattle.rules.specs.declared.Size.{Size}
 use Rattle.rules.specs.Sizes.{count}
 use Rattle.rules.specs.Sums.{Run, run-of, total-takes}
