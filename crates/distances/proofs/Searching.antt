@@ -7,6 +7,7 @@ use lib.Dec.{T}
 use lib.Ieee.{Float, nan, binary32, fits}
 use lib.ListN.{length, getD, replicate}
 use Rattle.fifo.specs.Machine.{finish, takes-of}
+use Rattle.fifo.proofs.Ends.{laws-within}
 use Rattle.rules.specs.declared.BarrierDiagonals.{BarrierDiagonals}
 use Rattle.rules.specs.declared.Size.{Size}
 use Rattle.rules.specs.declared.Spacing.{Spacing}
@@ -27,7 +28,7 @@ use Rattle.spread.specs.Nets.{Grids, carries, reads-times}
 use Rattle.spread.specs.Steps.{avoids}
 use Rattle.spread.specs.Promise.{grids, Spreads, Spread}
 use Rattle.spread.proofs.Agrees.{RulesWithin, takes-within, plain-agrees, obstacles-agrees, half-sum-agrees}
-use Rattle.spread.proofs.Results.{laws-within, distances-are}
+use Rattle.spread.proofs.Results.{distances-are}
 use Rattle.distances.specs.Promise.{unread, Searches, found, searched}
 
 -- ---- after the search

@@ -1,4 +1,4 @@
--- What the searches above cite of the loop: the square that bounds its takes, and its labels, read off the buffers. Assumes nothing.
+-- What the searches above cite of the loop: its labels, read off the buffers. Assumes nothing.
 use mathlib.Core.Bool.{true, cond}
 use mathlib.Core.List.{List, map}
 use mathlib.Core.Path.{_≡_, refl, sym, ap, _∙_}
@@ -6,7 +6,6 @@ use Prim.Native.Nat.{ℕ}
 use lib.Ieee.{Float, nan}
 use lib.ListN.{length, getD}
 use Rattle.fifo.specs.Machine.{table, finish}
-pub use Rattle.fifo.proofs.Ends.{laws-within}
 use Rattle.fifo.proofs.Ranges.{map-table, table-reads}
 use Rattle.rules.specs.Sizes.{count}
 use Rattle.spread.specs.declared.search.Search.{Search}

@@ -12,6 +12,7 @@ use Rattle.fifo.specs.Machine.{initial}
 use Rattle.fifo.specs.Simulation.{Within}
 use Rattle.fifo.proofs.Lists.{tested, holds}
 use Rattle.fifo.proofs.Induction.{takes-stopped}
+use Rattle.fifo.proofs.Ends.{laws-within}
 use Rattle.rules.specs.declared.Size.{Size}
 use Rattle.rules.specs.Sizes.{Grid, grid, Judged, Lent, Outcome, accepted, passes, unless, count}
 use Rattle.rules.specs.Distances.{has-data}
@@ -31,7 +32,6 @@ use Rattle.calls.specs.Promise.{slice}
 use Rattle.calls.proofs.Shapes.{shaped}
 use Rattle.calls.proofs.Untouched.{judged-writes, buffer-untouched}
 use Rattle.calls.proofs.Promises.{promised-refused, still-zero}
-use Rattle.spread.proofs.Results.{laws-within}
 use Rattle.sums.specs.FromAmounts.{SearchingAll, SearchedAll}
 use Rattle.sums.specs.Promise.{PromisedGains, Sums, summed}
 

@@ -7,6 +7,7 @@ use lib.Dec.{T}
 use lib.Ieee.{Float, nan, binary32, fits}
 use lib.ListN.{length, getD, replicate, length-replicate}
 use Rattle.binary32.specs.Numbers.{plus-zero}
+use Rattle.fifo.proofs.Ends.{laws-within}
 use Rattle.rules.specs.declared.Size.{Size}
 use Rattle.rules.specs.Sizes.{grid, Judged, Lent, Outcome, accepted, passes, unless}
 use Rattle.rules.specs.Sums.{total-takes, from-mask-cell, runs-7, sums, refusals-7, refusal-7}
@@ -24,7 +25,6 @@ use Rattle.calls.specs.Promise.{slice}
 use Rattle.calls.proofs.Shapes.{shaped}
 use Rattle.calls.proofs.Untouched.{judged-writes, buffer-untouched}
 use Rattle.calls.proofs.Promises.{promised-refused, still-zero}
-use Rattle.spread.proofs.Results.{laws-within}
 use Rattle.sums.specs.declared.mask.Found.{Found}
 use Rattle.sums.specs.declared.mask.Found.the-variants.{All, Over}
 use Rattle.sums.specs.Mask.{Given, SearchingMask, found-as, mask-outcome, SearchedMask, LeftAnswer}

@@ -10,6 +10,7 @@ use lib.Ieee.Fits.{inf-fits}
 use Rattle.binary32.specs.Numbers.{plus-zero}
 use Rattle.binary32.proofs.NotANumber.{infinity-not-nan}
 use Rattle.fifo.specs.Machine.{finish, takes-of}
+use Rattle.fifo.proofs.Ends.{laws-within}
 use Rattle.rules.specs.declared.Size.{Size}
 use Rattle.rules.specs.Sizes.{grid, Judged, Lent, Outcome, accepted, passes, unless, in-bounds, any, below-zero, count}
 use Rattle.rules.specs.Numbers.{infinity}
@@ -32,7 +33,7 @@ use Rattle.spread.specs.Nets.{Grids, carries, reads-times}
 use Rattle.spread.specs.Steps.{avoids}
 use Rattle.spread.specs.Promise.{grids, Spread}
 use Rattle.spread.proofs.Agrees.{RulesWithin, takes-within, closest-same, by-time-agrees, by-time-labels}
-use Rattle.spread.proofs.Results.{laws-within, values-are}
+use Rattle.spread.proofs.Results.{values-are}
 use Rattle.values.specs.Promise.{PromisedValues, Searches, searched}
 
 -- The lengths of what these searches are lent.
