@@ -1,8 +1,7 @@
 -- The ring's operations, said of its contents: a push adds at the end, a take splits off the first, and no cell waits where the head is
 -- the tail. Two case lemmas carry the arithmetic: whether `next` wraps, and whether the way from the head to the tail does. Assumes nothing.
-use mathlib.Core.Path.{_≡_, refl, sym, ap, _∙_}
+use mathlib.Core.Path.{_≡_, refl, ap, _∙_}
 use mathlib.Core.Logic.{_⊎_, inl, inr}
-use mathlib.Core.Bool.{true, false, false≢true}
 use mathlib.Core.List.{List, [], _∷_, _++_}
 use Prim.Native.Nat.{ℕ, zero, suc, _+_, _-_, _≤_, _<_}
 use native.Mathlib.Nat.{mod-eq-of-lt, mod-self}
@@ -186,15 +185,6 @@ module _ (slots : List ℕ) (ring : Ring) where
         good = record { head-in = next-in head-in (next-is (length slots) (ring .head) head-in); tail-in = tail-in };
         split = from-shrunk slots (ring .head) (ring .tail) head-in tail-in some;
       }
-
--- What the test for an empty list says.
-pub none-waits : (cells : List ℕ) → none cells ≡ true → cells ≡ []
-none-waits [] e = refl
-none-waits (cell ∷ cells) e = absurd (false≢true e)
-
-pub some-waits : (cells : List ℕ) → none cells ≡ false → 0 < length cells
-some-waits [] e = absurd (false≢true (sym e))
-some-waits (cell ∷ cells) e = omega arith
 
 -- A new ring is empty, in whatever slots there are.
 pub new-empty : NewRing (record { head = 0; tail = 0 })
