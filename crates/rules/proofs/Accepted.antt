@@ -1,14 +1,14 @@
 -- What is known of the inputs of a call that no test refuses. Assumes nothing.
-use mathlib.Core.Bool.{Bool, true, false, not, cond}
-use mathlib.Core.List.{List, _∷_}
-use mathlib.Core.Path.{_≡_, refl, sym, subst}
+use mathlib.Core.Bool.{Bool, false, not}
+use mathlib.Core.List.{List}
+use mathlib.Core.Path.{_≡_}
 use Prim.Native.Nat.{ℕ}
 use borrow.Author.Tests.{not-false}
 use lib.Dec.{T}
 use lib.Ieee.{Float, isNan, le}
 use Rattle.binary32.specs.Numbers.{plus-zero}
 use Rattle.fifo.proofs.Lists.{holds}
-use Rattle.rules.specs.Sizes.{Size, Grid, Spacing, Lent, Refusal, Judged, passes, stops, in-bounds, out-of-bounds, any, first-that-holds, shape, below-zero}
+use Rattle.rules.specs.Sizes.{Size, Grid, Spacing, Lent, Refusal, passes, in-bounds, out-of-bounds, any, first-that-holds, shape, below-zero}
 use Rattle.rules.specs.Distances.{refusals-1, refusals-2, refusals-3}
 use Rattle.rules.specs.Values.{refusals-5, refusals-6}
 use Rattle.rules.specs.Sums.{refusals-7, refusals-8}

@@ -1,5 +1,5 @@
 -- Searches 7 and 8: sums within reach. Definitions only.
-use mathlib.Core.Bool.{Bool, true, false, not, cond, _&&_}
+use mathlib.Core.Bool.{Bool, true, not, cond, _&&_}
 use mathlib.Core.List.{List, [], _∷_, map, foldl}
 use Prim.Native.Nat.{ℕ, _+_, _*_, min}
 use lib.Dec.{eqb}
@@ -7,7 +7,7 @@ use lib.IntN.{ℤ, pos, negsuc}
 use lib.ListN.{getD, set, length, replicate}
 use lib.Ieee.{Float, nan, binary32, add, mul, lt, le, eq}
 use Rattle.binary32.specs.Nodata.{nodata}
-use Rattle.fifo.specs.Machine.{Net, State, among, joined, passing, label, finish, takes-of, trace, initial}
+use Rattle.fifo.specs.Machine.{Net, State, among, joined, passing, finish, takes-of, trace, initial}
 use Rattle.binary32.specs.Numbers.{plus-zero, one}
 use Rattle.rules.specs.Numbers.{infinity, quarter-of-largest}
 use Rattle.rules.specs.Sizes.{Size, Grid, Lent, Refusal, number-at, Outcome, accepted, Judged, unless, any, first-that-holds, shape, bad-budget, negative-time, count}
