@@ -143,7 +143,7 @@ module _ (size : Size) (bounds : Bounded size) {row col : ℤ} (row-in : Inside 
 -- ---- a cell's row and column
 
 module _ (size : Size) (bounds : Bounded size) (u : ℕ) (below : u < count size) where
-  pub cols-some : 0 < mag (size .cols)
+  cols-some : 0 < mag (size .cols)
   cols-some = go (mag (size .cols)) below
     where
       go : (n : ℕ) → u < mag (size .rows) * n → 0 < n

@@ -190,7 +190,7 @@ module _ (size : Size) (u : ℕ) (interior : Interior size u) where
 
   -- They are its neighbours, in trying order. Proof: each step leads to a row and a column of the grid, whose index is u, one more or one
   -- less, a row's cells more or less.
-  pub around-it : neighbours size u offsets ≡ around cols u
+  around-it : neighbours size u offsets ≡ around cols u
   unfolding neighbours
   around-it =
       rw (

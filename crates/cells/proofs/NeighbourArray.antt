@@ -161,10 +161,10 @@ module _ {size : Size} {u : ℕ} {r : Neighbours} (lists : Lists size u r) where
   ordered : (r .straight ≤ r .count) × (r .count ≤ 8) × (length (r .cells) ≡ 8)
   ordered = (lists .straight-most, lists .count-most, lists .eight)
 
-  pub straight-long : r .straight ≡ length (straight-neighbours size u)
+  straight-long : r .straight ≡ length (straight-neighbours size u)
   straight-long = let order = ordered in begins (r .straight) (r .cells) (straight-neighbours size u) (omega arith) (lists .straight-ones)
 
-  pub count-long : r .count ≡ length (straight-neighbours size u) + length (diagonal-neighbours size u)
+  count-long : r .count ≡ length (straight-neighbours size u) + length (diagonal-neighbours size u)
   count-long =
       let order = ordered in
       let behind : length (drop (r .straight) (r .cells)) ≡ length (r .cells) - r .straight = length-drop (r .straight) (r .cells) in

@@ -14,10 +14,10 @@ use Rattle.rules.specs.Cells.{offsets, index, row-of, col-of, within, neighbour
 
 module _ (size : Size) (u : ℕ) where
   -- The place at an offset.
-  abbrev pub to-row : List ℤ → ℤ
+  abbrev to-row : List ℤ → ℤ
   to-row offset = pos (row-of size u) +ℤ getD offset 0 (pos 0)
 
-  abbrev pub to-col : List ℤ → ℤ
+  abbrev to-col : List ℤ → ℤ
   to-col offset = pos (col-of size u) +ℤ getD offset 1 (pos 0)
 
   neighbours-append : (a b : List (List ℤ)) → neighbours size u (a ++ b) ≡ neighbours size u a ++ neighbours size u b

@@ -80,7 +80,7 @@ next-in below (inr first) = omega arith
 
 -- ---- the slots from one on
 
-pub length-from : (slots : List ℕ) (k i : ℕ) → length (from slots k i) ≡ k
+length-from : (slots : List ℕ) (k i : ℕ) → length (from slots k i) ≡ k
 unfolding from
 length-from slots zero i = refl
 length-from slots (suc k) i = ap suc (length-from slots k (next (length slots) i))
@@ -135,7 +135,7 @@ module _ (slots : List ℕ) (h t : ℕ) (h-in : h < length slots) (t-in : t < le
       ap (λ (k : ℕ). from slots k h) (gap-shrinks h-in t-in (next-is len h h-in) (gap-is len h t) (gap-is len (next len h) t) some)
 
 module _ (slots : List ℕ) (ring : Ring) where
-  pub length-contents : length (contents slots ring) ≡ gap (length slots) (ring .head) (ring .tail)
+  length-contents : length (contents slots ring) ≡ gap (length slots) (ring .head) (ring .tail)
   unfolding contents
   length-contents = length-from slots (gap (length slots) (ring .head) (ring .tail)) (ring .head)
 

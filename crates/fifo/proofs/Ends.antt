@@ -210,7 +210,7 @@ module _ {L : Type 0} {net : Net L} (laws : Laws net) where
       bounded (room net) k (passing (net .enterable) 0 (net .cells)) s (omega arith) sound
       (λ c may. inl (in-passing (net .enterable) 0 (net .cells) c (omega arith) (omega (arith, may .0)) (may .1)))
 
-  pub stops-within-square : (s : State L) → Sound laws s → (k : ℕ) → room net * room net ≤ k → run net k s .waiting ≡ []
+  stops-within-square : (s : State L) → Sound laws s → (k : ℕ) → room net * room net ≤ k → run net k s .waiting ≡ []
   stops-within-square s sound k enough =
       let square = room net * room net in
       let stops = stops-by net square s (takes-within-square s sound (square + 1)) in

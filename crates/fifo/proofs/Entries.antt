@@ -51,7 +51,7 @@ once-joins past v ws =
 
 module _ {L : Type 0} (net : Net L) where
   -- The entered cells are those of the past and then those that wait.
-  abbrev pub InOrder : List ℕ → State L → Type 0
+  abbrev InOrder : List ℕ → State L → Type 0
   InOrder past s = s .entered ≡ once [] (past ++ s .waiting)
 
   -- The head moves from the waiting cells to the past, and a cell that is stored to joins the waiting cells as it joins the entered ones.

@@ -96,14 +96,14 @@ module _ {L : Type 0} (net : Net L) where
   relax-keeps P d steps kept v f i s p = relax-cases P d v f s (λ e. kept v f i s e p) (λ _. p)
 
   -- A property that holds before a scan and that its stores keep holds after it.
-  pub scan-keeps : (P : State L → Type 0) (d : L) (steps : List (ℕ × (L → L))) → Kept P d steps → (s : State L) → P s → P (scan net d steps s)
+  scan-keeps : (P : State L → Type 0) (d : L) (steps : List (ℕ × (L → L))) → Kept P d steps → (s : State L) → P s → P (scan net d steps s)
   unfolding scan
   scan-keeps P d [] kept s p = p
   scan-keeps P d (step ∷ steps) kept s p =
       scan-keeps P d steps (λ v f i. kept v f (inr i)) (relax net d step s) (relax-keeps P d (step ∷ steps) kept (step .0) (step .1) (inl refl) s p)
 
   -- After a scan each of its steps has what its relaxation brings and the later stores keep.
-  pub scan-reaches :
+  scan-reaches :
       (P : State L → Type 0) (Q : ℕ → (L → L) → State L → Type 0) (d : L) (steps : List (ℕ × (L → L)))
       → Kept P d steps
       → ((v : ℕ) (f : L → L) → In (v, f) steps → (t : State L) → P t → Q v f (relax net d (v, f) t))

@@ -175,7 +175,7 @@ module _ {L : Type 0} {net : Net L} (laws : Laws net) where
         )
 
     -- A take keeps every label accounted for: its stores do, and after it the cell taken has relaxed its steps.
-    pub accounted-take : Accounted laws (take net u ws s .waiting) (take net u ws s)
+    accounted-take : Accounted laws (take net u ws s .waiting) (take net u ws s)
     accounted-take = record {
       entered-single = after .accounted .entered-single;
       waiting-entered = after .accounted .waiting-entered;

@@ -72,7 +72,7 @@ module _ {L : Type 0} {net : Net L} (laws : Laws net) where
     }
 
   -- From any sound state whose labels are accounted for, a run that stops holds the least sums.
-  pub least-sums-from :
+  least-sums-from :
       (s : State L) → Sound laws s → Accounted laws (s .waiting) s → (k : ℕ) → run net k s .waiting ≡ [] → LeastSums laws (run net k s)
   least-sums-from s sound acc k stops =
       settled (sound-run laws k s sound) (subst (λ l. Accounted laws l (run net k s)) stops (accounted-run laws k s sound acc))

@@ -12,7 +12,7 @@ use Rattle.fifo.proofs.Induction.{by-takes, run-zero, takes-zero, trace
 
 module _ {L : Type 0} (net : Net L) where
   -- A run of n + k takes is a run of n takes and then one of k.
-  pub run-add : (n k : ℕ) (s : State L) → run net (n + k) s ≡ run net k (run net n s)
+  run-add : (n k : ℕ) (s : State L) → run net (n + k) s ≡ run net k (run net n s)
   run-add n k =
       by-takes net (λ n s. run net (n + k) s ≡ run net k (run net n s))
       (λ s. rw (zero-add, run-zero))
@@ -28,7 +28,7 @@ module _ {L : Type 0} (net : Net L) where
       (λ n s u ws e later. rw (suc-add, takes-head net (n + k) s u ws e, run-head net n s u ws e, takes-head net n s u ws e, suc-add) (ap suc later))
       n
 
-  pub trace-add : (n k : ℕ) (s : State L) → trace net (n + k) s ≡ trace net n s ++ trace net k (run net n s)
+  trace-add : (n k : ℕ) (s : State L) → trace net (n + k) s ≡ trace net n s ++ trace net k (run net n s)
   trace-add n k =
       by-takes net (λ n s. trace net (n + k) s ≡ trace net n s ++ trace net k (run net n s))
       (λ s. rw (zero-add, run-zero, trace-zero))
@@ -42,14 +42,14 @@ module _ {L : Type 0} (net : Net L) where
       by-takes net (λ k s. takes net k s ≤ k) (λ s. omega (arith, takes-zero net s)) (λ k s e. omega (arith, takes-stopped net (suc k) s e))
       (λ k s u ws e later. omega (arith, takes-head net k s u ws e))
 
-  pub stopped-or-all : (k : ℕ) (s : State L) → (run net k s .waiting ≡ []) ⊎ (takes net k s ≡ k)
+  stopped-or-all : (k : ℕ) (s : State L) → (run net k s .waiting ≡ []) ⊎ (takes net k s ≡ k)
   stopped-or-all =
       by-takes net (λ k s. (run net k s .waiting ≡ []) ⊎ (takes net k s ≡ k))
       (λ s. inr (takes-zero net s))
       (λ k s e. inl (rw (run-stopped net (suc k) s e) e))
       (λ k s u ws e later. rw (run-head net k s u ws e, takes-head net k s u ws e) (⊎-elim inl (λ a. inr (ap suc a)) later))
 
-  pub all-taken : (k : ℕ) (s : State L) (u : ℕ) (ws : List ℕ) → run net k s .waiting ≡ u ∷ ws → takes net k s ≡ k
+  all-taken : (k : ℕ) (s : State L) (u : ℕ) (ws : List ℕ) → run net k s .waiting ≡ u ∷ ws → takes net k s ≡ k
   all-taken k s u ws e = ⊎-elim (λ z. absurd (no-head e z)) (λ a. a) (stopped-or-all k s)
 
   -- One take more, at the end of a run.
@@ -89,7 +89,7 @@ module _ {L : Type 0} (net : Net L) where
       ∙ ap (λ l. trace net j s ++ l) (trace-stopped net (k - j) (run net j s) stops)
       ∙ append-nil (trace net j s)
 
-  pub takes-settled : (j k : ℕ) (s : State L) → run net j s .waiting ≡ [] → takes net k s ≤ takes net j s
+  takes-settled : (j k : ℕ) (s : State L) → run net j s .waiting ≡ [] → takes net k s ≤ takes net j s
   takes-settled j k s stops =
       let same : takes net (j + k) s ≡ takes net (k + j) s = ap (λ n. takes net n s) (omega arith) in
       omega (arith, takes-add j k s, takes-stopped net k (run net j s) stops, takes-add k j s)

@@ -12,7 +12,7 @@ use Rattle.fifo.proofs.Lists.{getD-any}
 use Rattle.fifo.proofs.Sound.{label-initial, sound-run, sound-initial, closed-kept}
 
 module _ {L : Type 0} {net : Net L} (laws : Laws net) (k : ℕ) where
-  pub search-sound : Sound laws (run net k (initial net))
+  search-sound : Sound laws (run net k (initial net))
   search-sound = sound-run laws k (initial net) (sound-initial laws)
 
   -- No cell waits twice.
@@ -20,7 +20,7 @@ module _ {L : Type 0} {net : Net L} (laws : Laws net) (k : ℕ) where
   waiting-single = search-sound .single
 
   -- There are as many labels as cells.
-  pub labels-length : length (run net k (initial net) .labels) ≡ net .cells
+  labels-length : length (run net k (initial net) .labels) ≡ net .cells
   labels-length = search-sound .size
 
 -- Where the search ends, a cell that may not be entered has its first label.

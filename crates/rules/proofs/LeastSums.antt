@@ -53,7 +53,7 @@ module _ {net : Net Float} {Allowed : ℕ → ℕ → Float → Type 0} {cap : F
       met-by {from} walk = from-any (net .start) from ((walk-starts walk) .1) (walk-path costs steps walk)
 
   -- Demand 3 of any such search: marked cells may not be entered and hold NaN at first; of the others, those that do not start hold the cap at first.
-  pub holds-least-sums :
+  holds-least-sums :
       (marked : ℕ → Bool) → ((c : ℕ) → T (marked c) → (net .enterable c ≡ false) × (net .first c ≡ nan))
       → ((c : ℕ) → c < net .cells → net .start c ≡ false → T (not (marked c)) → net .first c ≡ cap)
       → HoldsLeastSums net marked Allowed cap

@@ -49,14 +49,14 @@ neighbours-inside size u (offset ∷ others) v i =
 
 -- ---- the cells that pass a test
 
-pub kept-in : (test : ℕ → Bool) (v : ℕ) (vs : List ℕ) → In v (keep test vs) → In v vs × T (test v)
+kept-in : (test : ℕ → Bool) (v : ℕ) (vs : List ℕ) → In v (keep test vs) → In v vs × T (test v)
 unfolding keep
 kept-in test v [] i = absurd i
 kept-in test v (w ∷ vs) i =
     let later : In v (keep test vs) → In v (w ∷ vs) × T (test v) = λ j. let r = kept-in test v vs j in (inr (r .0), r .1) in
     by-test (λ l. In v l → In v (w ∷ vs) × T (test v)) (test w) (λ e. ⊎-elim (λ p. (inl p, subst (λ x. T (test x)) (sym p) (holds e))) later) (λ e. later) i
 
-pub in-kept : (test : ℕ → Bool) (v : ℕ) (vs : List ℕ) → In v vs → T (test v) → In v (keep test vs)
+in-kept : (test : ℕ → Bool) (v : ℕ) (vs : List ℕ) → In v vs → T (test v) → In v (keep test vs)
 unfolding keep
 in-kept test v [] i t = absurd i
 in-kept test v (w ∷ vs) i t =

@@ -168,7 +168,7 @@ closest-by-time-laws targets times values limit times-good held number = laws-of
 
 -- ---- 7
 
-pub mask-cell-costs : (times : Grid Float) (m : ℕ) → AcceptedTimes times → AddsCosts (λ d. d) (from-mask-cell times m) infinity
+mask-cell-costs : (times : Grid Float) (m : ℕ) → AcceptedTimes times → AddsCosts (λ d. d) (from-mask-cell times m) infinity
 unfolding from-mask-cell
 mask-cell-costs times m times-good = record {
   order = λ x y. refl;
@@ -188,7 +188,7 @@ mask-cell-laws times m times-good = laws-of-costs (mask-cell-costs times m times
 -- ---- 8
 
 -- Only of a target with a time: one without has +0 at first although it does not start, so that not every cell that does not start has the cap.
-pub amount-costs :
+amount-costs :
     (times : Grid Float) (budget : Float) (t : ℕ) → AcceptedTimes times → AcceptedBudget budget → T (has-data times t)
     → AddsCosts (λ d. d) (from-amount times budget t) (add binary32 budget one)
 unfolding from-amount

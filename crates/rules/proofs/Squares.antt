@@ -33,7 +33,7 @@ laws-end laws = let (stops, takes, cells) = ends-within-square laws in record { 
 
 -- With no starting cell nothing waits at the start, so nothing is taken.
 module _ {L : Type 0} (net : Net L) (none : (c : ℕ) → Starting net c → ⊥) where
-  pub none-start-idle : initial net .waiting ≡ []
+  none-start-idle : initial net .waiting ≡ []
   unfolding initial
   none-start-idle = ⊎-elim (λ e. e) (λ (u, ws, e). absurd (none u (passing-starts net u (rw e (inl refl))))) (empty-or-not (passing (net .start) 0 (net .cells)))
 
@@ -41,7 +41,7 @@ module _ {L : Type 0} (net : Net L) (none : (c : ℕ) → Starting net c → ⊥
   unfolding takes-of
   none-taken = takes-stopped net (net .cells * net .cells) (initial net) none-start-idle
 
-  pub none-start-end : EndsWithinSquare net
+  none-start-end : EndsWithinSquare net
   unfolding finish
   none-start-end = record {
     nothing-waits = rw (run-stopped net (net .cells * net .cells) (initial net) none-start-idle) none-start-idle;

@@ -47,7 +47,7 @@ unfolding total-takes
 total-is-sum net each test n few = omega (arith, length-passing test 0 n, summed-at-most net each 0 (passing test 0 n))
 
 module _ (times : Grid Float) (bounds : T (in-bounds (times .size))) (times-good : AcceptedTimes times) where
-  pub mask-cell-takes : (m : ℕ) → takes-of (from-mask-cell times m) ≤ most-takes
+  mask-cell-takes : (m : ℕ) → takes-of (from-mask-cell times m) ≤ most-takes
   unfolding from-mask-cell
   mask-cell-takes m = takes-at-most (from-mask-cell times m) (mask-cell-ends times m times-good) (cells-at-most (times .size) bounds)
 
@@ -57,7 +57,7 @@ module _ (times : Grid Float) (bounds : T (in-bounds (times .size))) (times-good
       total-is-sum (from-mask-cell times) mask-cell-takes (target mask) (count (mask .size)) (cells-at-most (mask .size) mask-bounds)
 
   module _ (budget : Float) (budget-good : AcceptedBudget budget) where
-    pub amount-takes : (t : ℕ) → takes-of (from-amount times budget t) ≤ most-takes
+    amount-takes : (t : ℕ) → takes-of (from-amount times budget t) ≤ most-takes
     unfolding from-amount
     amount-takes t = takes-at-most (from-amount times budget t) (amount-ends times budget t times-good budget-good) (cells-at-most (times .size) bounds)
 
