@@ -2,7 +2,7 @@
 -- natural number, whose index is below the number of cells. Assumes nothing.
 use mathlib.Core.Path.{_≡_, refl, ap, _∙_}
 use mathlib.Core.Bool.{Bool, true, false, cond}
-use mathlib.Core.List.{[]}
+use mathlib.Core.List.{List, [], _∷_}
 use Prim.Native.Nat.{ℕ, zero, suc, _+_, _-_, _*_, _/_, _%_, _≤_, _<_}
 use native.Mathlib.Nat.{lt-of-lt-of-le, mul-zero, mod-lt, div-lt-iff-lt-mul}
 use native.Mathlib.Omega.{arith}
@@ -51,26 +51,29 @@ module _ {end k : ℤ} (end-fits : SFits w32 end) (k-fits : SFits w32 k) where
   pub inside-first : leZ (pos 0) (read k) ≡ false → leZ (pos 0) (read k) ≡ within end k
   inside-first first = rw (toZ-ofZ k-fits) (and-not (leZ (pos 0) k) (ltZ k end) (rw (toZ-ofZ k-fits) at first))
 
--- ---- a step of the table
+-- ---- the steps of a table
 
--- The i-th offset's part for rows, and for columns. Past the table both stay.
-abbrev pub row-offset : ℕ → ℤ
-row-offset i = getD (getD offsets i []) 0 (pos 0)
+-- An offset's part for rows, and for columns. One that is not there stays.
+abbrev pub row-part : List ℤ → ℤ
+row-part offset = getD offset 0 (pos 0)
 
-abbrev pub col-offset : ℕ → ℤ
-col-offset i = getD (getD offsets i []) 1 (pos 0)
+abbrev pub col-part : List ℤ → ℤ
+col-part offset = getD offset 1 (pos 0)
 
--- Each entry of the table is a step.
-pub steps : (i : ℕ) → Step (row-offset i) × Step (col-offset i)
-steps zero = (stay, on)
-steps (suc zero) = (stay, back)
-steps (suc (suc zero)) = (on, stay)
-steps (suc (suc (suc zero))) = (back, stay)
-steps (suc (suc (suc (suc zero)))) = (on, on)
-steps (suc (suc (suc (suc (suc zero))))) = (back, on)
-steps (suc (suc (suc (suc (suc (suc zero)))))) = (on, back)
-steps (suc (suc (suc (suc (suc (suc (suc zero))))))) = (back, back)
-steps (suc (suc (suc (suc (suc (suc (suc (suc i)))))))) = (stay, stay)
+-- Each offset of a table is a step for rows and one for columns.
+pub data AllSteps : List (List ℤ) → Type 0 where
+  none : AllSteps []
+  more : {down across : ℤ} {table : List (List ℤ)} → Step down → Step across → AllSteps table → AllSteps ((down ∷ across ∷ []) ∷ table)
+
+-- Then so is the i-th. Past the table both parts stay.
+pub step-at : {table : List (List ℤ)} → AllSteps table → (i : ℕ) → Step (row-part (getD table i [])) × Step (col-part (getD table i []))
+step-at none i = (stay, stay)
+step-at (more down across rest) zero = (down, across)
+step-at (more down across rest) (suc i) = step-at rest i
+
+-- The offsets of the rules are steps.
+pub steps : AllSteps offsets
+steps = search (none, more, stay, on, back) depth 9
 
 pub step-read : {d : ℤ} → Step d → read d ≡ d
 step-read stay = refl

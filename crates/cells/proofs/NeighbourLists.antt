@@ -11,14 +11,15 @@ use lib.Seq.{take-suc}
 use lib.Signed.{mag}
 use Rattle.rules.specs.declared.Size.{Size}
 use Rattle.rules.specs.Cells.{offsets, index, row-of, col-of, within, neighbour, neighbours, straight-neighbours, diagonal-neighbours}
+use Rattle.cells.proofs.Edges.{row-part, col-part}
 
 module _ (size : Size) (u : ℕ) where
   -- The place at an offset.
   abbrev to-row : List ℤ → ℤ
-  to-row offset = pos (row-of size u) +ℤ getD offset 0 (pos 0)
+  to-row offset = pos (row-of size u) +ℤ row-part offset
 
   abbrev to-col : List ℤ → ℤ
-  to-col offset = pos (col-of size u) +ℤ getD offset 1 (pos 0)
+  to-col offset = pos (col-of size u) +ℤ col-part offset
 
   neighbours-append : (a b : List (List ℤ)) → neighbours size u (a ++ b) ≡ neighbours size u a ++ neighbours size u b
   unfolding neighbours

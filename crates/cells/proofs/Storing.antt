@@ -17,7 +17,7 @@ use Rattle.cells.specs.Storing.{InGrid, Step, Stepping, Neighbour, At, O
 use Rattle.fifo.proofs.Lists.{holds}
 use Rattle.cells.proofs.Bounds.{Bounded, bounded, read, side-same}
 use Rattle.cells.proofs.Edges.{Inside, inside, inside-is-side, row-between, col-between, place-row, place-col}
-use Rattle.cells.proofs.Edges.{row-offset, col-offset, step-read, step-fits, stepped}
+use Rattle.cells.proofs.Edges.{row-part, col-part, step-at, steps, step-read, step-fits, stepped}
 
 -- ---- the place one step from a place in the grid
 
@@ -112,36 +112,43 @@ module _ {size : Size} {row col : ℤ} (place : InGrid size row col) where
   pub place-read : InGrid size (read row) (read col)
   place-read = rw (row-read, col-read) place
 
-  pub leads-from-place : {down across : ℤ} {there : Neighbour} → Leads size (read row) (read col) down across there → Leads size row col down across there
+  leads-from-place : {down across : ℤ} {there : Neighbour} → Leads size (read row) (read col) down across there → Leads size row col down across there
   leads-from-place to = rw (row-read, col-read) at to
 
 -- A step that the code reads back from its bits is the same step.
-module _ {down across : ℤ} (row-step : Step down) (col-step : Step across) where
+module _ {down across : ℤ} (step : Step down × Step across) where
   pub stepping-read : {size : Size} {row col : ℤ} → InGrid size row col → Stepping size row col (read down) (read across)
-  stepping-read place = rw (step-read row-step, step-read col-step) (record { place = place; row-step = row-step; col-step = col-step })
+  stepping-read place = rw (step-read (step .0), step-read (step .1)) (record { place = place; row-step = step .0; col-step = step .1 })
 
   pub leads-by-step : {size : Size} {row col : ℤ} {there : Neighbour} → Leads size row col (read down) (read across) there → Leads size row col down across there
-  leads-by-step to = rw (step-read row-step, step-read col-step) at to
+  leads-by-step to = rw (step-read (step .0), step-read (step .1)) at to
 
 -- ---- what is stored
 
 -- To the rules an offset is its two parts.
-neighbour-parts : (size : Size) (u : ℕ) (offset : List ℤ) → neighbour size u (getD offset 0 (pos 0) ∷ getD offset 1 (pos 0) ∷ []) ≡ neighbour size u offset
+neighbour-parts : (size : Size) (u : ℕ) (offset : List ℤ) → neighbour size u (row-part offset ∷ col-part offset ∷ []) ≡ neighbour size u offset
 unfolding neighbour
 neighbour-parts size u offset = refl
 
 pub leads-at :
-    {size : Size} {row col : ℤ} (offset : List ℤ) {there : Neighbour} → Leads size row col (getD offset 0 (pos 0)) (getD offset 1 (pos 0)) there
+    {size : Size} {row col : ℤ} (offset : List ℤ) {there : Neighbour} → Leads size row col (row-part offset) (col-part offset) there
     → (u : ℕ) → row ≡ pos (row-of size u) → col ≡ pos (col-of size u) → cells-at there ≡ neighbour size u offset
 leads-at {size} offset to u row-is col-is = to .leads u row-is col-is ∙ neighbour-parts size u offset
 
-module _ {size : Size} {row col : ℤ} (i : ℕ) {there : Neighbour} (to : Leads size row col (row-offset i) (col-offset i) there) (cells : List ℕ) (found : ℕ) where
-  stored-as : Stored size row col i cells found (sets cells found (cells-at there)) (found + length (cells-at there))
-  stored-as = record { stored = λ u r c. rw (leads-at (getD offsets i []) to u r c); counted = λ u r c. rw (leads-at (getD offsets i []) to u r c) }
+module _
+    {size : Size} {row col : ℤ} (place : InGrid size row col) (i : ℕ) {there : Neighbour}
+    (to : let offset = getD offsets i [] in Leads size (read row) (read col) (read (row-part offset)) (read (col-part offset)) there) (cells : List ℕ) (found : ℕ)
+  where
+    -- What is told is the neighbour at the i-th offset.
+    is-neighbour : (u : ℕ) → row ≡ pos (row-of size u) → col ≡ pos (col-of size u) → cells-at there ≡ neighbour size u (getD offsets i [])
+    is-neighbour = leads-at (getD offsets i []) (leads-from-place place (leads-by-step (step-at steps i) to))
 
-  -- Where there is a neighbour, it is stored at the first free entry; where there is none, nothing is stored.
-  pub stored-one : {cell : ℕ} → there ≡ At cell → Stored size row col i cells found (set cells found cell) (found + 1)
-  stored-one is = rw is at stored-as
+    stored-as : Stored size row col i cells found (sets cells found (cells-at there)) (found + length (cells-at there))
+    stored-as = record { stored = λ u r c. rw (is-neighbour u r c); counted = λ u r c. rw (is-neighbour u r c) }
 
-  pub stored-none : there ≡ Outside → Stored size row col i cells found cells found
-  stored-none is = rw add-zero at (rw is at stored-as)
+    -- Where there is a neighbour, it is stored at the first free entry; where there is none, nothing is stored.
+    pub stored-one : {cell : ℕ} → there ≡ At cell → Stored size row col i cells found (set cells found cell) (found + 1)
+    stored-one is = rw is at stored-as
+
+    pub stored-none : there ≡ Outside → Stored size row col i cells found cells found
+    stored-none is = rw add-zero at (rw is at stored-as)

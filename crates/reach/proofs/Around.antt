@@ -1,11 +1,12 @@
 -- The cells beside a cell, and beside each of a list, are tried by the table of offsets. Assumes nothing.
 use mathlib.Core.List.{List, [], _∷_, _++_, append-nil, append-assoc, foldl, foldl-append}
 use mathlib.Core.Path.{_≡_, refl, sym, ap, _∙_}
-use Prim.Native.Nat.{ℕ, zero, suc, _+_, _<_}
-use lib.IntN.{ℤ, pos}
+use Prim.Native.Nat.{ℕ, _+_, _<_}
+use lib.IntN.{ℤ}
 use lib.Ieee.{Float}
 use lib.ListN.{length, getD, take}
-use Rattle.cells.specs.Storing.{Step, stay, on, back}
+use Rattle.cells.specs.Storing.{stay, on, back}
+use Rattle.cells.proofs.Edges.{AllSteps, none, more}
 use Rattle.cells.proofs.NeighbourLists.{one-more-of}
 use Rattle.rules.specs.declared.Size.{Size}
 use Rattle.rules.specs.Sizes.{count}
@@ -21,19 +22,9 @@ use Rattle.reach.proofs.Adjoining.{adjoins-none, adjoins-on}
 
 -- ---- the table
 
--- The i-th offset's part for rows, and for columns. Past the table both stay.
-abbrev pub row-offset : ℕ → ℤ
-row-offset i = getD (getD adjacent-offsets i []) 0 (pos 0)
-
-abbrev pub col-offset : ℕ → ℤ
-col-offset i = getD (getD adjacent-offsets i []) 1 (pos 0)
-
-pub steps : (i : ℕ) → Step (row-offset i) × Step (col-offset i)
-steps zero = (back, stay)
-steps (suc zero) = (on, stay)
-steps (suc (suc zero)) = (stay, back)
-steps (suc (suc (suc zero))) = (stay, on)
-steps (suc (suc (suc (suc i)))) = (stay, stay)
+-- The offsets of the cells beside a cell are steps.
+pub steps : AllSteps adjacent-offsets
+steps = search (none, more, stay, on, back)
 
 -- ---- the cells beside one cell
 

@@ -1,8 +1,7 @@
 -- `neighbours::store_neighbour` meets its contract. Assumes nothing.
 use borrow.Author.Needs.{needs}
-use Rattle.cells.specs.Storing.{Leads}
-use Rattle.cells.proofs.Edges.{row-offset, col-offset, steps}
-use Rattle.cells.proofs.Storing.{place-read, leads-from-place, stepping-read, leads-by-step, stored-one, stored-none}
+use Rattle.cells.proofs.Edges.{step-at, steps}
+use Rattle.cells.proofs.Storing.{place-read, stepping-read, stored-one, stored-none}
 use Rattle.cells.proofs.neighbours.store_neighbour.Statement.{statement}
 use Rattle.cells.proofs.neighbours.store_neighbour.Tie as tie
 
@@ -19,11 +18,7 @@ array-copy-out-neighbour-at-2 : tie.Need-array-copy-out-neighbour-at-2
 array-copy-out-neighbour-at-2 c = search needs
 
 neighbour-at-requires : tie.Need-neighbour-at-requires
-neighbour-at-requires c κs = let s = c .before .before .before in stepping-read (steps (s .args .i) .0) (steps (s .args .i) .1) (place-read (s .pre .place))
-
--- Where the step leads, from the place as it was given.
-led : (c : tie.After-neighbour-at) → let a = c .before .before .before .before .args in Leads (a .size) (a .row) (a .col) (row-offset (a .i)) (col-offset (a .i)) (c .neighbour-at .result)
-led c = let s = c .before .before .before .before in leads-from-place (s .pre .place) (leads-by-step (steps (s .args .i) .0) (steps (s .args .i) .1) (c .neighbour-at .ensures))
+neighbour-at-requires c κs = let s = c .before .before .before in stepping-read (step-at steps (s .args .i)) (place-read (s .pre .place))
 
 enum-known-there : tie.Need-enum-known-there
 enum-known-there c = search needs
@@ -43,14 +38,14 @@ enum-told c = search needs
 returns : tie.Need-returns
 returns c =
     let call = c .before .before .before in
-    let a = call .before .before .before .before .args in
-    stored-one (a .i) (led call) (a .cells .now) (a .found) (c .before .there .given .1)
+    let s = call .before .before .before .before in
+    stored-one (s .pre .place) (s .args .i) (call .neighbour-at .ensures) (s .args .cells .now) (s .args .found) (c .before .there .given .1)
 
 returns-2 : tie.Need-returns-2
 returns-2 c =
     let call = c .before .before in
-    let a = call .before .before .before .before .args in
-    stored-none (a .i) (led call) (a .cells .now) (a .found) (c .enum-told .given .1)
+    let s = call .before .before .before .before in
+    stored-none (s .pre .place) (s .args .i) (call .neighbour-at .ensures) (s .args .cells .now) (s .args .found) (c .enum-told .given .1)
 
 pub store-neighbour-spec : {M : Type 1} → statement M
 store-neighbour-spec =

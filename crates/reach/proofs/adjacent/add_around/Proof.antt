@@ -7,7 +7,7 @@ use mathlib.Core.List.{[]}
 use borrow.Author.Needs.{needs}
 use Rattle.cells.specs.Neighbours.{CellOf}
 use Rattle.cells.specs.Storing.{cells-at}
-use Rattle.cells.proofs.Edges.{place-row, place-col}
+use Rattle.cells.proofs.Edges.{step-at, place-row, place-col}
 use Rattle.cells.proofs.Storing.{cell-in-grid, stepping-read, leads-by-step, leads-at}
 use Rattle.rules.specs.Cells.{neighbour, neighbours}
 use Rattle.rules.specs.Sums.{adjacent-offsets}
@@ -35,7 +35,7 @@ led c =
     let s = at .before .before .before .before .before in
     let place = at .before .place-of .ensures in
     let i = at .loop .i in
-    let to = leads-by-step (steps i .0) (steps i .1) (c .neighbour-at .ensures) in
+    let to = leads-by-step (step-at steps i) (c .neighbour-at .ensures) in
     leads-at (getD adjacent-offsets i []) to (s .args .cell) (place-row (s .args .size) (s .args .cell) (cell-of s) place) (place-col (s .args .size) (s .args .cell) (cell-of s) place)
 
 place-of-requires : tie.Need-place-of-requires Inv-loop μ-loop
@@ -61,7 +61,7 @@ neighbour-at-requires c κs =
     let at = c .before .before .before .before .before .before in
     let s = at .before .before .before .before .before in
     let i = at .loop .i in
-    stepping-read (steps i .0) (steps i .1) (cell-in-grid (s .args .size) (s .args .cell) (cell-of s) (at .before .place-of .ensures))
+    stepping-read (step-at steps i) (cell-in-grid (s .args .size) (s .args .cell) (cell-of s) (at .before .place-of .ensures))
 
 add-there-requires : tie.Need-add-there-requires Inv-loop μ-loop
 add-there-requires c κs =
