@@ -1,8 +1,8 @@
 -- A cell's neighbours lie inside the grid, and what stands among the permitted steps. Assumes nothing.
-use mathlib.Core.Bool.{Bool, false, _&&_}
-use mathlib.Core.List.{List, [], _∷_, map}
+use mathlib.Core.Bool.{Bool, true, false, cond, _&&_}
+use mathlib.Core.List.{List, [], _∷_, _++_, map, map-append}
 use mathlib.Core.Logic.{_⊎_, inl, inr, ⊎-elim}
-use mathlib.Core.Path.{_≡_, sym, ap, _∙_, subst}
+use mathlib.Core.Path.{_≡_, refl, sym, ap, _∙_, subst}
 use Prim.Native.Nat.{ℕ, _<_}
 use lib.Arith.{digits-lt}
 use lib.IntN.{ℤ, pos, negsuc, _+ℤ_}
@@ -63,7 +63,27 @@ in-kept test v (w ∷ vs) i t =
     by-test (In v) (test w) (λ e. ⊎-elim inl (λ j. inr (in-kept test v vs j t)) i)
     (λ e. ⊎-elim (λ p. absurd (true-or-false (is-true (test w) (subst (λ x. T (test x)) p t)) e)) (λ j. in-kept test v vs j t) i)
 
+-- Of two lists, those of the one and then those of the other.
+keep-append : (test : ℕ → Bool) (l m : List ℕ) → keep test (l ++ m) ≡ keep test l ++ keep test m
+unfolding keep
+keep-append test [] m = refl
+keep-append test (v ∷ l) m = go (test v) (keep-append test l m)
+  where
+    go : (b : Bool) → keep test (l ++ m) ≡ keep test l ++ keep test m → cond b (v ∷ keep test (l ++ m)) (keep test (l ++ m)) ≡ cond b (v ∷ keep test l) (keep test l) ++ keep test m
+    go true later = ap (λ kept. v ∷ kept) later
+    go false later = later
+
 -- ---- the permitted steps
+
+-- The steps to those cells of a list that pass: to those of two lists, and to one cell.
+module _ {L : Type 0} (s : Float) (entering : Float → ℕ → L → L) (test : ℕ → Bool) where
+  pub steps-append : (l m : List ℕ) → map (over s entering) (keep test (l ++ m)) ≡ map (over s entering) (keep test l) ++ map (over s entering) (keep test m)
+  steps-append l m = ap (map (over s entering)) (keep-append test l m) ∙ map-append (over s entering) (keep test l) (keep test m)
+
+  pub step-if : (v : ℕ) (may : Bool) → test v ≡ may → map (over s entering) (keep test (v ∷ [])) ≡ cond may ((v, entering s v) ∷ []) []
+  unfolding keep
+  step-if v true is = ap (λ b. map (over s entering) (cond b (v ∷ []) [])) is
+  step-if v false is = ap (λ b. map (over s entering) (cond b (v ∷ []) [])) is
 
 -- From u the cell v may be entered over a step of that length.
 pub data Permitted (size : Size) (may-straight may-diagonal : ℕ → Bool) (u v : ℕ) : Float → Type 0 where

@@ -1,6 +1,6 @@
 -- The neighbours are tried one after the other: what the code does to the buffers is the machine's scan of what they hold. Assumes nothing.
 use mathlib.Core.Bool.{Bool, true, false, cond}
-use mathlib.Core.List.{List, [], _∷_, _++_, map, map-append, append-nil, append-assoc}
+use mathlib.Core.List.{List, [], _∷_, _++_, append-nil, append-assoc}
 use mathlib.Core.Path.{_≡_, refl, sym, ap, _∙_, subst}
 use Prim.Native.Nat.{ℕ, suc, _+_, _-_, _≤_, _<_}
 use native.Mathlib.Numerals.{add-one}
@@ -12,9 +12,10 @@ use lib.Seq.{take-suc, getD-drop}
 use Rattle.binary32.specs.Steps.{straight, diagonal}
 use Rattle.fifo.specs.Machine.{Net, State, scan}
 use Rattle.fifo.proofs.Induction.{scan-append}
-use Rattle.rules.specs.Cells.{keep, over}
+use Rattle.rules.specs.Cells.{keep}
 use Rattle.rules.specs.Values.{Carried}
 use Rattle.rules.specs.Sizes.{grid}
+use Rattle.rules.proofs.Neighbours.{steps-append, step-if}
 use Rattle.spread.specs.declared.search.Rule.{Rule}
 use Rattle.spread.specs.declared.search.Search.{Search}
 use Rattle.spread.specs.declared.relax.Left.{Left}
@@ -56,49 +57,30 @@ does-both {search} {first} {after = after} does does-then same = record {
   kept = λ no-value. does-then .kept no-value ∙ does .kept no-value;
 }
 
--- ---- the steps to a list of cells
+-- ---- the steps of one kind
 
-keep-append : (test : ℕ → Bool) (l m : List ℕ) → keep test (l ++ m) ≡ keep test l ++ keep test m
-unfolding keep
-keep-append test [] m = refl
-keep-append test (v ∷ l) m = ap (λ r. cond (test v) (v ∷ r) r) (keep-append test l m) ∙ outside (test v) (keep test l)
-  where
-    outside : (b : Bool) (l : List ℕ) → cond b (v ∷ (l ++ keep test m)) (l ++ keep test m) ≡ cond b (v ∷ l) l ++ keep test m
-    outside true l = refl
-    outside false l = refl
+module _ (search : Search) (ground : Terrain) (u : ℕ) where
+  -- Whether a step of the kind may enter a cell.
+  abbrev may : Bool → ℕ → Bool
+  may diagonally v =
+      let obstacles = grid (search .size) (ground .obstacles) in
+      cond diagonally (may-diagonal (search .rule) obstacles u v) (may-straight (search .rule) obstacles v)
 
-pub straight-append :
-    (search : Search) (ground : Terrain) (u : ℕ) (l m : List ℕ)
-    → straight-steps search ground u (l ++ m) ≡ straight-steps search ground u l ++ straight-steps search ground u m
-unfolding straight-steps
-straight-append search ground u l m =
-    let test = may-straight (search .rule) (grid (search .size) (ground .obstacles)) in
-    ap (map (over straight (entering search (ground .times) u))) (keep-append test l m) ∙ map-append _ (keep test l) (keep test m)
+  -- Those to the cells of two lists.
+  steps-of-both :
+      (diagonally : Bool) (l m : List ℕ)
+      → steps-by search ground diagonally u (l ++ m) ≡ steps-by search ground diagonally u l ++ steps-by search ground diagonally u m
+  unfolding straight-steps diagonal-steps
+  steps-of-both true = steps-append diagonal (entering search (ground .times) u) (may true)
+  steps-of-both false = steps-append straight (entering search (ground .times) u) (may false)
 
-pub diagonal-append :
-    (search : Search) (ground : Terrain) (u : ℕ) (l m : List ℕ)
-    → diagonal-steps search ground u (l ++ m) ≡ diagonal-steps search ground u l ++ diagonal-steps search ground u m
-unfolding diagonal-steps
-diagonal-append search ground u l m =
-    let test = may-diagonal (search .rule) (grid (search .size) (ground .obstacles)) u in
-    ap (map (over diagonal (entering search (ground .times) u))) (keep-append test l m) ∙ map-append _ (keep test l) (keep test m)
-
--- ---- one cell
-
-module _ (search : Search) (ground : Terrain) (u v : ℕ) where
-  straight-one :
-      (may : Bool) → may-straight (search .rule) (grid (search .size) (ground .obstacles)) v ≡ may
-      → straight-steps search ground u (v ∷ []) ≡ cond may ((v, entering search (ground .times) u straight v) ∷ []) []
-  unfolding straight-steps keep
-  straight-one true may = ap (λ b. map (over straight (entering search (ground .times) u)) (cond b (v ∷ []) [])) may
-  straight-one false may = ap (λ b. map (over straight (entering search (ground .times) u)) (cond b (v ∷ []) [])) may
-
-  diagonal-one :
-      (may : Bool) → may-diagonal (search .rule) (grid (search .size) (ground .obstacles)) u v ≡ may
-      → diagonal-steps search ground u (v ∷ []) ≡ cond may ((v, entering search (ground .times) u diagonal v) ∷ []) []
-  unfolding diagonal-steps keep
-  diagonal-one true may = ap (λ b. map (over diagonal (entering search (ground .times) u)) (cond b (v ∷ []) [])) may
-  diagonal-one false may = ap (λ b. map (over diagonal (entering search (ground .times) u)) (cond b (v ∷ []) [])) may
+  -- That to one cell, if it is permitted.
+  step-to-one :
+      (diagonally : Bool) (v : ℕ) (permits : Bool) → may diagonally v ≡ permits
+      → steps-by search ground diagonally u (v ∷ []) ≡ cond permits ((v, entering search (ground .times) u (length-of diagonally) v) ∷ []) []
+  unfolding straight-steps diagonal-steps
+  step-to-one true = step-if diagonal (entering search (ground .times) u) (may true)
+  step-to-one false = step-if straight (entering search (ground .times) u) (may false)
 
 -- A step that is permitted is tried, and one that is not leads nowhere.
 module _ (search : Search) (left : Left) {steps : List (ℕ × (Carried → Carried))} where
@@ -119,16 +101,12 @@ module _ (search : Search) (ground : Terrain) (left : Left) (v : ℕ) (diagonall
   step-there = entering search (ground .times) (left .cell) (length-of diagonally) v
 
   one-step :
-      (kind may : Bool) → kind ≡ diagonally → may-step n kind (grid (search .size) (ground .obstacles)) (left .cell) v ≡ may
-      → steps-by search ground kind (left .cell) (v ∷ []) ≡ cond may ((v, entering search (ground .times) (left .cell) (length-of kind) v) ∷ []) []
-  one-step true may kind is =
-      diagonal-one search ground (left .cell) v may
-      (permitted-by (search .rule) true (grid (search .size) (ground .obstacles)) (left .cell) v
-      ∙ ap (λ m. may-step m true (grid (search .size) (ground .obstacles)) (left .cell) v) (sym numbered) ∙ is)
-  one-step false may kind is =
-      straight-one search ground (left .cell) v may
-      (permitted-by (search .rule) false (grid (search .size) (ground .obstacles)) (left .cell) v
-      ∙ ap (λ m. may-step m false (grid (search .size) (ground .obstacles)) (left .cell) v) (sym numbered) ∙ is)
+      (may : Bool) → may-step n diagonally (grid (search .size) (ground .obstacles)) (left .cell) v ≡ may
+      → steps-by search ground diagonally (left .cell) (v ∷ []) ≡ cond may ((v, step-there) ∷ []) []
+  one-step may is =
+      step-to-one search ground (left .cell) diagonally v may
+      (permitted-by (search .rule) diagonally (grid (search .size) (ground .obstacles)) (left .cell) v
+      ∙ ap (λ m. may-step m diagonally (grid (search .size) (ground .obstacles)) (left .cell) v) (sym numbered) ∙ is)
 
   module _ {entered : Bool} (enters : entered ≡ may-enter n (grid (search .size) (ground .obstacles)) v) where
     -- A step that is not permitted leads nowhere.
@@ -141,7 +119,7 @@ module _ (search : Search) (ground : Terrain) (left : Left) (v : ℕ) (diagonall
         → Does search (scanning (left-label search left) (steps-by search ground diagonally (left .cell) (v ∷ []))) b b
     not-entered refused =
         none-tried search left
-        (one-step diagonally false refl
+        (one-step false
         (ap (λ may. cond (blocked-by n diagonally (grid (search .size) (ground .obstacles)) (left .cell) v) false may) (sym enters ∙ refused)
         ∙ refused-whatever (blocked-by n diagonally (grid (search .size) (ground .obstacles)) (left .cell) v)))
 
@@ -154,8 +132,8 @@ module _ (search : Search) (ground : Terrain) (left : Left) (v : ℕ) (diagonall
         go :
             (may : Bool) → may-step n diagonally (grid (search .size) (ground .obstacles)) (left .cell) v ≡ may
             → Does search (scanning (left-label search left) (steps-by search ground diagonally (left .cell) (v ∷ []))) b b
-        go true is = one-tried search left (one-step diagonally true refl is) does
-        go false is = none-tried search left (one-step diagonally false refl is) good
+        go true is = one-tried search left (one-step true is) does
+        go false is = none-tried search left (one-step false is) good
 
     module _ {blocks : Bool} (says : blocks ≡ blocked-by n diagonally (grid (search .size) (ground .obstacles)) (left .cell) v) where
       pub step-blocked :
@@ -163,7 +141,7 @@ module _ (search : Search) (ground : Terrain) (left : Left) (v : ℕ) (diagonall
           → Does search (scanning (left-label search left) (steps-by search ground diagonally (left .cell) (v ∷ []))) b b
       step-blocked is =
           none-tried search left
-          (one-step diagonally false refl
+          (one-step false
           (ap (λ blocked. cond blocked false (may-enter n (grid (search .size) (ground .obstacles)) v)) (sym says ∙ is)))
 
       pub step-tried :
@@ -171,7 +149,7 @@ module _ (search : Search) (ground : Terrain) (left : Left) (v : ℕ) (diagonall
           → Does search (scanning (left-label search left) (steps-by search ground diagonally (left .cell) (v ∷ []))) before after
       step-tried is open-there =
           one-tried search left
-          (one-step diagonally true refl
+          (one-step true
           (ap (λ blocked. cond blocked false (may-enter n (grid (search .size) (ground .obstacles)) v)) (sym says ∙ open-there) ∙ sym enters ∙ is))
 
 -- ---- one cell more
@@ -207,7 +185,7 @@ module _ (search : Search) (ground : Terrain) (u : ℕ) (cells : List ℕ) where
   straight-more k below =
       all-straight (k + 1)
       ∙ ap (straight-steps search ground u) (ap (λ n. take n cells) (add-one k) ∙ take-suc cells k 0 below)
-      ∙ straight-append search ground u (take k cells) (getD cells k 0 ∷ [])
+      ∙ steps-of-both search ground u false (take k cells) (getD cells k 0 ∷ [])
       ∙ ap (λ l. l ++ straight-steps search ground u (getD cells k 0 ∷ [])) (sym (all-straight k))
 
   diagonal-more :
@@ -215,7 +193,7 @@ module _ (search : Search) (ground : Terrain) (u : ℕ) (cells : List ℕ) where
       → listed-steps search ground u cells middle (k + 1) ≡ listed-steps search ground u cells middle k ++ diagonal-steps search ground u (getD cells k 0 ∷ [])
   diagonal-more middle k from below =
       let first = straight-steps search ground u (take middle cells) in
-      ap (λ l. first ++ l) (ap (diagonal-steps search ground u) (part-last cells middle k from below) ∙ diagonal-append search ground u (part cells middle k) (getD cells k 0 ∷ []))
+      ap (λ l. first ++ l) (ap (diagonal-steps search ground u) (part-last cells middle k from below) ∙ steps-of-both search ground u true (part cells middle k) (getD cells k 0 ∷ []))
       ∙ sym (append-assoc first (diagonal-steps search ground u (part cells middle k)) (diagonal-steps search ground u (getD cells k 0 ∷ [])))
 
   listed-more :
