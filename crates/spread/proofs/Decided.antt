@@ -2,7 +2,7 @@
 -- Not decided, because the promises do not speak of it: in which slots of the queue the waiting cells stand, what the other slots hold, and by which
 -- mark a cell that does not wait is marked. After `spread` nothing is said of marks and queue but their lengths: the calls above zero both. Assumes nothing.
 use mathlib.Core.Bool.{false}
-use mathlib.Core.List.{List, [], _∷_, map}
+use mathlib.Core.List.{List, [], map}
 use mathlib.Core.Logic.{⊎-elim}
 use mathlib.Core.Path.{_≡_, refl, sym, ap, _∙_}
 use Prim.Native.Nat.{ℕ, suc, _<_}
@@ -13,7 +13,7 @@ use lib.ListN.{length, getD}
 use Rattle.cells.specs.Ring.{contents}
 use Rattle.cells.proofs.Decided.{SameWaiting}
 use Rattle.fifo.specs.Machine.{State}
-use Rattle.fifo.proofs.Lists.{tested}
+use Rattle.fifo.proofs.Lists.{tested, empty-or-not}
 use Rattle.rules.specs.Sizes.{count}
 use Rattle.rules.specs.Values.{Carried}
 use Rattle.rules.proofs.Decided.{equation-decides}
@@ -115,7 +115,8 @@ pub took-cell-decides :
     {search : Search} {ground : Terrain} {before after₁ after₂ : Buffers} {a b : TakenCell} → Taking search ground before
     → TookCell search ground before after₁ a → TookCell search ground before after₂ b → SameTake search after₁ after₂ a b
 took-cell-decides {search} {ground} {before} taking p q =
-    let (u, ws, first) = some-first (contents (before .queue) (before .ring)) (taking .some) in
+    let some = taking .some in
+    let (u, ws, first) = ⊎-elim (λ none. let short = ap length none in absurd (omega arith)) (λ head. head) (empty-or-not (contents (before .queue) (before .ring))) in
     let state : State Carried = record { labels = labels-of search (before .distances) (before .carried); waiting = contents (before .queue) (before .ring); entered = [] } in
     let held : Holds search state before = record { labels = refl; waiting = refl } in
     let net = net-on search [] (ground .obstacles) (ground .times) [] in
@@ -128,7 +129,3 @@ took-cell-decides {search} {ground} {before} taking p q =
           held-decides (p .good) (q .good) (p .holds net steps state held u ws first) (q .holds net steps state held u ws first)
           (λ no-value. equation-decides (p .kept no-value) (q .kept no-value));
     }
-  where
-    some-first : (l : List ℕ) → 0 < length l → (u : ℕ) × (ws : List ℕ) × (l ≡ u ∷ ws)
-    some-first [] some = absurd (omega arith)
-    some-first (u ∷ ws) some = (u, ws, refl)

@@ -16,7 +16,7 @@ use Rattle.cells.specs.Ring.{contents, none, SaysEmpty}
 use Rattle.cells.proofs.Bounds.{bounded}
 use Rattle.fifo.specs.Machine.{Net, initial, run, takes}
 use Rattle.fifo.proofs.Induction.{run-zero, takes-zero}
-use Rattle.fifo.proofs.Lists.{same-or-not}
+use Rattle.fifo.proofs.Lists.{true-or-false, same-or-not, empty-or-not}
 use Rattle.fifo.proofs.Runs.{run-last, takes-last}
 use Rattle.rules.specs.declared.Size.{Size}
 use Rattle.rules.specs.Sizes.{in-bounds, count}
@@ -36,14 +36,6 @@ use Rattle.spread.proofs.Lengths.{carried-length-kept}
 use Rattle.spread.proofs.Rules.{cells-are, follows}
 use Rattle.spread.proofs.Beginning.{begun-good, begun-initial}
 use Rattle.spread.proofs.Finishing.{finishes}
-
-some-or-none : (l : List ℕ) → none l ≡ false → (u : ℕ) × (ws : List ℕ) × (l ≡ u ∷ ws)
-some-or-none [] e = absurd (subst T e tt)
-some-or-none (u ∷ ws) e = (u, ws, refl)
-
-is-none : (l : List ℕ) → none l ≡ true → l ≡ []
-is-none [] e = refl
-is-none (u ∷ ws) e = absurd (subst T (sym e) tt)
 
 -- Where nothing waits after so many takes, the loop has run.
 ended-turn :
@@ -79,7 +71,7 @@ module _ {search : Search} {ground : Terrain} {before : Buffers} where
     -- The loop's test is that the ring is not empty.
     module _ (something : not answer ≡ true) where
       pub first : (u : ℕ) × (ws : List ℕ) × (contents (b .queue) (b .ring) ≡ u ∷ ws)
-      first = some-or-none (contents (b .queue) (b .ring)) (sym told ∙ not-true answer something)
+      first = ⊎-elim (λ nothing. absurd (true-or-false (told ∙ ap none nothing) (not-true answer something))) (λ some. some) (empty-or-not (contents (b .queue) (b .ring)))
 
       pub turn-takes : Setting search ground → Taking search ground b
       turn-takes setting = record { good = turn .good; setting = setting; some = rw (first .2) (omega arith) }
@@ -108,8 +100,13 @@ module _ {search : Search} {ground : Terrain} {before : Buffers} where
         kept = λ no-value. took .kept no-value ∙ turn .kept no-value;
       }
 
+    -- Where the answer is that it is empty, nothing waits.
+    pub none-left : answer ≡ true → contents (b .queue) (b .ring) ≡ []
+    none-left nothing = ⊎-elim (λ empty. empty) (λ (u, ws, some). absurd (true-or-false nothing (told ∙ ap none some))) (empty-or-not (contents (b .queue) (b .ring)))
+
+    -- Then the loop has run.
     pub ran : not answer ≡ false → Ran search ground before (b .distances) (b .carried) (b .marks) (b .queue) r
-    ran nothing = ended-turn turn (is-none (contents (b .queue) (b .ring)) (sym told ∙ not-false answer nothing))
+    ran nothing = ended-turn turn (none-left (not-false answer nothing))
 
 -- ---- some takes, one or all
 
@@ -140,7 +137,7 @@ module _ {search : Search} {ground : Terrain} {most : ℕ} {before : Buffers} wh
     passed-empty nothing = record {
       turn = passed .turn;
       few = passed .few;
-      no-more = inr (is-none (contents (b .queue) (b .ring)) (sym (empty .says (b .queue) (passed .turn .good .waits .in-slots)) ∙ nothing));
+      no-more = inr (none-left (passed .turn) empty nothing);
       untouched = passed .untouched;
       one = passed .one;
     }
@@ -166,12 +163,12 @@ pub all-taken :
     {search : Search} {ground : Terrain} {before after : Buffers} {some : TakenSome} {most : ℕ} → most ≡ count (search .size) * count (search .size)
     → (net : Net Carried) × Ready search ground net before → TookUpTo search ground most before after some
     → Ran search ground before (after .distances) (after .carried) (after .marks) (after .queue) (some .takes)
-all-taken {search} {ground} {before} {after} {some} {most} square (net, ready) took = ended-turn (took .turn) (⊎-elim (λ all. go all (contents (after .queue) (after .ring)) refl) (λ none-waits. none-waits) (took .no-more))
+all-taken {search} {ground} {before} {after} {some} {most} square (net, ready) took =
+    ended-turn (took .turn) (⊎-elim (λ all. ⊎-elim (λ none-waits. none-waits) (one-more all) (empty-or-not (contents (after .queue) (after .ring)))) (λ none-waits. none-waits) (took .no-more))
   where
-    go : some .takes ≡ most → (l : List ℕ) → contents (after .queue) (after .ring) ≡ l → contents (after .queue) (after .ring) ≡ []
-    go all [] e = e
-    go all (u ∷ ws) e =
-        let made = takes-last net (some .takes) (initial net) u ws (took .turn .taken net ready .holds .waiting ∙ e) in
+    one-more : some .takes ≡ most → (u : ℕ) × (ws : List ℕ) × (contents (after .queue) (after .ring) ≡ u ∷ ws) → contents (after .queue) (after .ring) ≡ []
+    one-more all (u, ws, first) =
+        let made = takes-last net (some .takes) (initial net) u ws (took .turn .taken net ready .holds .waiting ∙ first) in
         let bound = ready .within (some .takes + 1) in
         absurd (lt-irrefl 0 (omega arith))
 
