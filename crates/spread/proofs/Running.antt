@@ -3,8 +3,8 @@ use mathlib.Core.Bool.{Bool, true, false, not}
 use mathlib.Core.List.{List, [], _∷_}
 use mathlib.Core.Logic.{inl, inr, ⊎-elim}
 use mathlib.Core.Path.{_≡_, refl, sym, ap, _∙_, subst}
-use Prim.Native.Nat.{ℕ, suc, _+_, _*_, _≤_, _<_}
-use native.Mathlib.Nat.{mul-le-mul, lt-irrefl, lt-of-le-of-lt, le-trans}
+use Prim.Native.Nat.{ℕ, suc, _+_, _-_, _*_, _≤_, _<_}
+use native.Mathlib.Nat.{mul-le-mul, lt-irrefl, lt-of-le-of-lt}
 use native.Mathlib.Omega.{arith}
 use borrow.Author.Tests.{not-true, not-false}
 use lib.Dec.{T, lit<}
@@ -36,6 +36,10 @@ use Rattle.spread.proofs.Lengths.{carried-length-kept}
 use Rattle.spread.proofs.Rules.{cells-are, follows}
 use Rattle.spread.proofs.Beginning.{begun-good, begun-initial}
 use Rattle.spread.proofs.Finishing.{finishes}
+
+-- The square of the number of cells fits in 64 bits.
+pub square-fits : (size : Size) → T (in-bounds size) → {n : ℕ} → n ≡ count size → Fits w64 (n * n)
+square-fits size bounds counted = let most = bounded size bounds .cells-most in rw counted (record { fits = lt-of-le-of-lt (mul-le-mul most most) (lit< tt) })
 
 -- Where nothing waits after so many takes, the loop has run.
 ended-turn :
@@ -80,9 +84,16 @@ module _ {search : Search} {ground : Terrain} {before : Buffers} where
       more : (net : Net Carried) → Ready search ground net before → takes net (r + 1) (initial net) ≡ r + 1
       more net ready = takes-last net r (initial net) (first .0) (first .1) (turn .taken net ready .holds .waiting ∙ first .2)
 
-      -- So the bound on the takes is not met yet, and the loop's measure is above 0.
-      pub below-square : (net : Net Carried) × Ready search ground net before → r + 1 ≤ count (search .size) * count (search .size)
-      below-square (net, ready) = let made = more net ready in let bound = ready .within (r + 1) in omega arith
+      -- So the bound on the takes is not met yet: one more is counted in 64 bits, where the square fits, and the loop's measure falls.
+      pub take-counted :
+          Running search ground before
+          → Fits w64 (r + 1) × (count (search .size) * count (search .size) - (r + 1) < count (search .size) * count (search .size) - r)
+      take-counted runs =
+          let (net, ready) = runs .ready in
+          let made = more net ready in
+          let bound = ready .within (r + 1) in
+          let square = square-fits (search .size) (runs .setting .bounds) refl .fits in
+          (record { fits = omega arith }, omega arith)
 
       -- The take is the machine's next one. Proof: the buffers hold the state after r takes, in which the same cells wait, so that the code's
       -- take leads to the state that the machine's take leads to, and that is the state after r + 1 takes.
@@ -171,16 +182,6 @@ all-taken {search} {ground} {before} {after} {some} {most} square (net, ready) t
         let made = takes-last net (some .takes) (initial net) u ws (took .turn .taken net ready .holds .waiting ∙ first) in
         let bound = ready .within (some .takes + 1) in
         absurd (lt-irrefl 0 (omega arith))
-
--- The takes are counted in 64 bits: the square of the number of cells fits.
-pub counted-fits : (size : Size) → T (in-bounds size) → (r : ℕ) → r + 1 ≤ count size * count size → Fits w64 (r + 1)
-counted-fits size bounds r below =
-    let most = bounded size bounds .cells-most in
-    record { fits = lt-of-le-of-lt (le-trans below (mul-le-mul most most)) (lit< tt) }
-
--- And so does the square itself.
-pub square-fits : (size : Size) → T (in-bounds size) → {n : ℕ} → n ≡ count size → Fits w64 (n * n)
-square-fits size bounds counted = let most = bounded size bounds .cells-most in rw counted (record { fits = lt-of-le-of-lt (mul-le-mul most most) (lit< tt) })
 
 -- ---- from the beginning to the end
 

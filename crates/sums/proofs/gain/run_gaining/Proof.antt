@@ -1,12 +1,11 @@
 -- `gain::run_gaining` meets its contract: before each turn, of the cells taken so far those within the budget have gained. Assumes nothing.
 use mathlib.Core.Path.{sym, _∙_}
 use Prim.Native.Nat.{_*_, _-_}
-use native.Mathlib.Omega.{arith}
 use Rattle.rules.specs.Sizes.{count}
 use Rattle.spread.specs.Steps.{terrain}
 use Rattle.spread.specs.Buffers.{buffers}
 use Rattle.spread.proofs.Lengths.{same-distances, same-carried, same-marks, same-queue}
-use Rattle.spread.proofs.Running.{turn-takes, below-square, counted-fits}
+use Rattle.spread.proofs.Running.{turn-takes, take-counted}
 use Rattle.sums.proofs.Gains.{GainTurn, no-gain, gain-reaches, next-gain, gained-all}
 use Rattle.sums.proofs.gain.run_gaining.Statement.{statement}
 use Rattle.sums.proofs.gain.run_gaining.Tie as tie
@@ -32,15 +31,10 @@ gain-cell-requires : tie.Need-gain-cell-requires Inv-loop μ-loop
 gain-cell-requires c κs = gain-reaches (c .before .before .before .before .before .before .before .before .before .before .before .before .before .before .before .before .before .before .loop .inv) (c .before .before .before .before .before .before .before .before .before .before .before .before .before .before .before .before .before .is-empty .ensures) (c .before .before .before .before .before .before .before .before .before .before .before .take-cell .ensures)
 
 add-takes : tie.Need-add-takes Inv-loop μ-loop
-add-takes c =
-    let start = c .before .before .before .before .before .before .before .before .before .before .before .before .before .before .before .before .before .before .before .before .before .before .before .before .before .before .before .before .before .before .before .before in
-    counted-fits (start .args .search .size) (start .pre .running .setting .bounds) (c .before .before .before .before .before .before .before .before .before .before .before .before .before .before .before .before .before .before .before .before .before .before .before .loop .takes)
-    (below-square (c .before .before .before .before .before .before .before .before .before .before .before .before .before .before .before .before .before .before .before .before .before .before .before .loop .inv .turn) (c .before .before .before .before .before .before .before .before .before .before .before .before .before .before .before .before .before .before .before .before .before .before .is-empty .ensures) (c .before .before .before .before .before .before .before .before .before .before .before .before .before .before .before .before .before .before .before .before .before .if1 .taken) (start .pre .running .ready))
+add-takes c = take-counted (c .before .before .before .before .before .before .before .before .before .before .before .before .before .before .before .before .before .before .before .before .before .before .before .loop .inv .turn) (c .before .before .before .before .before .before .before .before .before .before .before .before .before .before .before .before .before .before .before .before .before .before .is-empty .ensures) (c .before .before .before .before .before .before .before .before .before .before .before .before .before .before .before .before .before .before .before .before .before .if1 .taken) (c .before .before .before .before .before .before .before .before .before .before .before .before .before .before .before .before .before .before .before .before .before .before .before .before .before .before .before .before .before .before .before .before .pre .running) .0
 
 loop-less : tie.Need-loop-less Inv-loop μ-loop
-loop-less c =
-    let below = below-square (c .before .before .before .before .before .before .before .before .before .before .before .before .before .before .before .before .before .before .before .before .before .before .before .loop .inv .turn) (c .before .before .before .before .before .before .before .before .before .before .before .before .before .before .before .before .before .before .before .before .before .before .is-empty .ensures) (c .before .before .before .before .before .before .before .before .before .before .before .before .before .before .before .before .before .before .before .before .before .if1 .taken) (c .before .before .before .before .before .before .before .before .before .before .before .before .before .before .before .before .before .before .before .before .before .before .before .before .before .before .before .before .before .before .before .before .pre .running .ready) in
-    omega arith
+loop-less c = take-counted (c .before .before .before .before .before .before .before .before .before .before .before .before .before .before .before .before .before .before .before .before .before .before .before .loop .inv .turn) (c .before .before .before .before .before .before .before .before .before .before .before .before .before .before .before .before .before .before .before .before .before .before .is-empty .ensures) (c .before .before .before .before .before .before .before .before .before .before .before .before .before .before .before .before .before .before .before .before .before .if1 .taken) (c .before .before .before .before .before .before .before .before .before .before .before .before .before .before .before .before .before .before .before .before .before .before .before .before .before .before .before .before .before .before .before .before .pre .running) .1
 
 loop-again : tie.Need-loop-again Inv-loop μ-loop
 loop-again c = next-gain (c .before .before .before .before .before .before .before .before .before .before .before .before .before .before .before .before .before .before .before .before .before .before .before .loop .inv) (c .before .before .before .before .before .before .before .before .before .before .before .before .before .before .before .before .before .before .before .before .before .before .is-empty .ensures) (c .before .before .before .before .before .before .before .before .before .before .before .before .before .before .before .before .before .before .before .before .before .if1 .taken) (c .before .before .before .before .before .before .before .before .before .before .before .before .before .before .before .before .take-cell .ensures) (c .before .before .before .before .gain-cell .ensures)

@@ -1,12 +1,11 @@
 -- `listing::run_listing` meets its contract: before each turn the cells taken so far are listed. Assumes nothing.
 use mathlib.Core.Path.{sym, _∙_}
 use Prim.Native.Nat.{_*_, _-_}
-use native.Mathlib.Omega.{arith}
 use Rattle.rules.specs.Sizes.{count}
 use Rattle.spread.specs.Steps.{terrain}
 use Rattle.spread.specs.Buffers.{buffers}
 use Rattle.spread.proofs.Lengths.{same-distances, same-carried, same-marks, same-queue}
-use Rattle.spread.proofs.Running.{turn-takes, below-square, counted-fits}
+use Rattle.spread.proofs.Running.{turn-takes, take-counted}
 use Rattle.sums.proofs.ListedRuns.{ListTurn, none-listed, list-joins, next-listed, listed-all}
 use Rattle.sums.proofs.listing.run_listing.Statement.{statement}
 use Rattle.sums.proofs.listing.run_listing.Tie as tie
@@ -32,15 +31,10 @@ list-cell-requires : tie.Need-list-cell-requires Inv-loop μ-loop
 list-cell-requires c κs = list-joins (c .before .before .before .before .before .before .before .before .before .before .before .before .before .before .before .before .before .before .loop .inv) (c .before .before .before .before .before .before .before .before .before .before .before .before .before .before .before .before .before .is-empty .ensures) (c .before .before .before .before .before .before .before .before .before .before .before .take-cell .ensures) (c .before .before .before .before .before .before .before .before .before .before .before .before .before .before .before .before .before .before .before .before .before .before .before .before .before .before .before .pre .running .ready)
 
 add-takes : tie.Need-add-takes Inv-loop μ-loop
-add-takes c =
-    let start = c .before .before .before .before .before .before .before .before .before .before .before .before .before .before .before .before .before .before .before .before .before .before .before .before .before .before .before .before .before .before .before .before in
-    counted-fits (start .args .search .size) (start .pre .running .setting .bounds) (c .before .before .before .before .before .before .before .before .before .before .before .before .before .before .before .before .before .before .before .before .before .before .before .loop .takes)
-    (below-square (c .before .before .before .before .before .before .before .before .before .before .before .before .before .before .before .before .before .before .before .before .before .before .before .loop .inv .turn) (c .before .before .before .before .before .before .before .before .before .before .before .before .before .before .before .before .before .before .before .before .before .before .is-empty .ensures) (c .before .before .before .before .before .before .before .before .before .before .before .before .before .before .before .before .before .before .before .before .before .if1 .taken) (start .pre .running .ready))
+add-takes c = take-counted (c .before .before .before .before .before .before .before .before .before .before .before .before .before .before .before .before .before .before .before .before .before .before .before .loop .inv .turn) (c .before .before .before .before .before .before .before .before .before .before .before .before .before .before .before .before .before .before .before .before .before .before .is-empty .ensures) (c .before .before .before .before .before .before .before .before .before .before .before .before .before .before .before .before .before .before .before .before .before .if1 .taken) (c .before .before .before .before .before .before .before .before .before .before .before .before .before .before .before .before .before .before .before .before .before .before .before .before .before .before .before .before .before .before .before .before .pre .running) .0
 
 loop-less : tie.Need-loop-less Inv-loop μ-loop
-loop-less c =
-    let below = below-square (c .before .before .before .before .before .before .before .before .before .before .before .before .before .before .before .before .before .before .before .before .before .before .before .loop .inv .turn) (c .before .before .before .before .before .before .before .before .before .before .before .before .before .before .before .before .before .before .before .before .before .before .is-empty .ensures) (c .before .before .before .before .before .before .before .before .before .before .before .before .before .before .before .before .before .before .before .before .before .if1 .taken) (c .before .before .before .before .before .before .before .before .before .before .before .before .before .before .before .before .before .before .before .before .before .before .before .before .before .before .before .before .before .before .before .before .pre .running .ready) in
-    omega arith
+loop-less c = take-counted (c .before .before .before .before .before .before .before .before .before .before .before .before .before .before .before .before .before .before .before .before .before .before .before .loop .inv .turn) (c .before .before .before .before .before .before .before .before .before .before .before .before .before .before .before .before .before .before .before .before .before .before .is-empty .ensures) (c .before .before .before .before .before .before .before .before .before .before .before .before .before .before .before .before .before .before .before .before .before .if1 .taken) (c .before .before .before .before .before .before .before .before .before .before .before .before .before .before .before .before .before .before .before .before .before .before .before .before .before .before .before .before .before .before .before .before .pre .running) .1
 
 loop-again : tie.Need-loop-again Inv-loop μ-loop
 loop-again c = next-listed (c .before .before .before .before .before .before .before .before .before .before .before .before .before .before .before .before .before .before .before .before .before .before .before .loop .inv) (c .before .before .before .before .before .before .before .before .before .before .before .before .before .before .before .before .before .before .before .before .before .before .is-empty .ensures) (c .before .before .before .before .before .before .before .before .before .before .before .before .before .before .before .before .before .before .before .before .before .if1 .taken) (c .before .before .before .before .before .before .before .before .before .before .before .before .before .before .before .before .take-cell .ensures) (c .before .before .before .before .list-cell .ensures)
