@@ -2,7 +2,7 @@
 use mathlib.Core.Bool.{true, false, true≢false, false≢true}
 use mathlib.Core.List.{List, [], _∷_}
 use mathlib.Core.Path.{_≡_, refl, sym, ap, _∙_}
-use Prim.Native.Nat.{ℕ, suc, _*_}
+use Prim.Native.Nat.{ℕ, suc}
 use lib.Dec.{T}
 use lib.Ieee.{Float, nan, binary32, fits}
 use lib.ListN.{length, getD, replicate}
@@ -27,8 +27,8 @@ use Rattle.spread.specs.declared.search.Search.{Search}
 use Rattle.spread.specs.Nets.{Grids, carries, reads-times}
 use Rattle.spread.specs.Steps.{avoids}
 use Rattle.spread.specs.Promise.{grids, Spreads, Spread}
-use Rattle.spread.proofs.Agrees.{RulesWithin, takes-within, plain-agrees, obstacles-agrees, half-sum-agrees}
-use Rattle.spread.proofs.Results.{distances-are}
+use Rattle.spread.proofs.Agrees.{plain-agrees, obstacles-agrees, half-sum-agrees}
+use Rattle.spread.proofs.Results.{WithinSquare, spreads-where, distances-are}
 use Rattle.distances.specs.Promise.{unread, Searches, found, searched}
 
 -- ---- after the search
@@ -74,16 +74,12 @@ can-search :
     → length targets ≡ count (search .size) → (avoids (search .rule) ≡ true → length obstacles ≡ count (search .size))
     → (reads-times (search .rule) ≡ true → length times ≡ count (search .size)) → length answer ≡ count (search .size)
     → length marks ≡ count (search .size) → length queue ≡ suc (count (search .size))
-    → RulesWithin (count (search .size) * count (search .size)) (search .rule) search (grids targets obstacles times unread)
-    → Searches search (grids targets obstacles times unread) answer marks queue
-can-search {search} {targets} {obstacles} {times} {answer} alone bounds targets-long obstacles-long times-long answer-long marks-long queue-long within = record {
+    → WithinSquare search (grids targets obstacles times unread) → Searches search (grids targets obstacles times unread) answer marks queue
+can-search {search} alone bounds targets-long obstacles-long times-long answer-long marks-long queue-long within = record {
   alone = alone;
-  spreads = λ carried. record {
-    inputs = record { bounds = bounds; targets-length = λ reads. targets-long; times-length = times-long; values-length = λ carried. none carried };
-    setting = record { bounds = bounds; obstacles-length = obstacles-long; times-length = times-long };
-    lengths = record { distances-length = answer-long; carried-length = λ carried. none carried; marks-length = marks-long; queue-length = queue-long };
-    within = takes-within (count (search .size) * count (search .size)) search (grids targets obstacles times unread) within;
-  };
+  spreads = λ carried.
+      spreads-where (record { bounds = bounds; targets-length = λ reads. targets-long; times-length = times-long; values-length = none }) obstacles-long
+      (record { distances-length = answer-long; carried-length = none; marks-length = marks-long; queue-length = queue-long }) within;
 }
   where
     none : {A : Type 0} → carries (search .rule) ≡ true → A

@@ -1,5 +1,5 @@
 -- The beginning of a loop over `take_cell`, and its end in the words of the rules' net. Assumes nothing.
-use mathlib.Core.Bool.{false, true≢false}
+use mathlib.Core.Bool.{Bool, true, false}
 use mathlib.Core.List.{List, [], map}
 use mathlib.Core.Path.{_≡_, sym, ap, _∙_}
 use Prim.Native.Nat.{ℕ, suc, _*_}
@@ -7,6 +7,7 @@ use lib.Ieee.{Float}
 use lib.ListN.{length}
 use Rattle.fifo.specs.Machine.{Net, initial, trace, finish, takes-of}
 use Rattle.fifo.specs.Simulation.{Agrees}
+use Rattle.fifo.proofs.Lists.{true-or-false}
 use Rattle.rules.specs.Sizes.{count}
 use Rattle.rules.specs.Values.{Carried}
 use Rattle.spread.specs.declared.search.Search.{Search}
@@ -17,11 +18,10 @@ use Rattle.spread.specs.First.{net-on}
 use Rattle.spread.specs.Begin.{Begins, BeganTo}
 use Rattle.spread.specs.Loop.{taken-at, Ran}
 use Rattle.spread.specs.Promise.{grids, Spreads}
-use Rattle.spread.proofs.Agrees.{RulesWithin, takes-within}
 use Rattle.spread.proofs.Rules.{cells-are}
 use Rattle.spread.proofs.Finishing.{finishes}
 use Rattle.spread.proofs.Running.{begun-ready, spread-ends}
-use Rattle.spread.proofs.Results.{distances-are}
+use Rattle.spread.proofs.Results.{WithinSquare, spreads-where, distances-are}
 use Rattle.sums.specs.Ways.{Ways}
 
 -- A rule that reads the times alone, and with which nothing goes along, spreads from any start.
@@ -29,24 +29,13 @@ pub spreads-by-times :
     (search : Search) {times distances : List Float} {marks queue : List ℕ} {from : ℕ → Net Float} (targets obstacles : List ℕ) (values carried : List Float)
     → reads-targets (search .rule) ≡ false → carries (search .rule) ≡ false → avoids (search .rule) ≡ false
     → Ways (search .size) times from → length distances ≡ count (search .size) → length marks ≡ count (search .size) → length queue ≡ suc (count (search .size))
-    → RulesWithin (count (search .size) * count (search .size)) (search .rule) search (grids targets obstacles times values)
-    → Spreads search (grids targets obstacles times values) distances carried marks queue
-spreads-by-times search {times} targets obstacles values carried no-targets no-value no-obstacles ways distances-long marks-long queue-long within = record {
-  inputs = record {
-    bounds = ways .bounds;
-    targets-length = λ reads. absurd (true≢false (sym reads ∙ no-targets));
-    times-length = λ reads. ways .times-length;
-    values-length = λ carrying. absurd (true≢false (sym carrying ∙ no-value));
-  };
-  setting = record { bounds = ways .bounds; obstacles-length = λ avoiding. absurd (true≢false (sym avoiding ∙ no-obstacles)); times-length = λ reads. ways .times-length };
-  lengths = record {
-    distances-length = distances-long;
-    carried-length = λ carrying. absurd (true≢false (sym carrying ∙ no-value));
-    marks-length = marks-long;
-    queue-length = queue-long;
-  };
-  within = takes-within (count (search .size) * count (search .size)) search (grids targets obstacles times values) within;
-}
+    → WithinSquare search (grids targets obstacles times values) → Spreads search (grids targets obstacles times values) distances carried marks queue
+spreads-by-times search targets obstacles values carried no-targets no-value no-obstacles ways distances-long marks-long queue-long =
+    spreads-where (record { bounds = ways .bounds; targets-length = never no-targets; times-length = λ reads. ways .times-length; values-length = never no-value })
+    (never no-obstacles) (record { distances-length = distances-long; carried-length = never no-value; marks-length = marks-long; queue-length = queue-long })
+  where
+    never : {A : Type 0} {b : Bool} → b ≡ false → b ≡ true → A
+    never is-not is = absurd (true-or-false is is-not)
 
 -- What is ready to spread is ready to begin.
 pub spreads-begin :

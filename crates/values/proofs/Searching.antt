@@ -2,7 +2,7 @@
 use mathlib.Core.Bool.{true, false, true≢false}
 use mathlib.Core.List.{List, [], _∷_}
 use mathlib.Core.Path.{_≡_, refl, sym, ap, _∙_}
-use Prim.Native.Nat.{ℕ, suc, _*_}
+use Prim.Native.Nat.{ℕ, suc}
 use lib.Dec.{T}
 use lib.Ieee.{Float, nan, binary32, fits, isNan}
 use lib.ListN.{length, getD, replicate}
@@ -32,8 +32,8 @@ use Rattle.spread.specs.declared.search.Search.{Search}
 use Rattle.spread.specs.Nets.{Grids, carries, reads-times}
 use Rattle.spread.specs.Steps.{avoids}
 use Rattle.spread.specs.Promise.{grids, Spread}
-use Rattle.spread.proofs.Agrees.{RulesWithin, takes-within, closest-same, by-time-agrees, by-time-labels}
-use Rattle.spread.proofs.Results.{values-are}
+use Rattle.spread.proofs.Agrees.{closest-same, by-time-agrees, by-time-labels}
+use Rattle.spread.proofs.Results.{WithinSquare, spreads-where, values-are}
 use Rattle.values.specs.Promise.{PromisedValues, Searches, searched}
 
 -- The lengths of what these searches are lent.
@@ -81,16 +81,13 @@ can-search :
     → carries (search .rule) ≡ true → avoids (search .rule) ≡ false → T (in-bounds (search .size))
     → length targets ≡ count (search .size) → (reads-times (search .rule) ≡ true → length times ≡ count (search .size)) → length values ≡ count (search .size)
     → length answer ≡ count (search .size) → length distances ≡ count (search .size) → length marks ≡ count (search .size) → length queue ≡ suc (count (search .size))
-    → RulesWithin (count (search .size) * count (search .size)) (search .rule) search (grids targets targets times values)
-    → Searches search (grids targets targets times values) answer distances marks queue
-can-search {search} {targets} {times} {values} carried open-everywhere bounds targets-long times-long values-long answer-long distances-long marks-long queue-long within = record {
+    → WithinSquare search (grids targets targets times values) → Searches search (grids targets targets times values) answer distances marks queue
+can-search carried open-everywhere bounds targets-long times-long values-long answer-long distances-long marks-long queue-long within = record {
   carrying = carried;
-  spreads = record {
-    inputs = record { bounds = bounds; targets-length = λ reads. targets-long; times-length = times-long; values-length = λ reads. values-long };
-    setting = record { bounds = bounds; obstacles-length = λ avoided. absurd (true≢false (sym avoided ∙ open-everywhere)); times-length = times-long };
-    lengths = record { distances-length = distances-long; carried-length = λ reads. answer-long; marks-length = marks-long; queue-length = queue-long };
-    within = takes-within (count (search .size) * count (search .size)) search (grids targets targets times values) within;
-  };
+  spreads =
+      spreads-where (record { bounds = bounds; targets-length = λ reads. targets-long; times-length = times-long; values-length = λ reads. values-long })
+      (λ avoided. absurd (true≢false (sym avoided ∙ open-everywhere)))
+      (record { distances-length = distances-long; carried-length = λ reads. answer-long; marks-length = marks-long; queue-length = queue-long }) within;
 }
 
 -- ---- search 4
