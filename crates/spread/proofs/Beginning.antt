@@ -23,7 +23,7 @@ use Rattle.spread.specs.declared.search.Search.{Search}
 use Rattle.spread.specs.declared.first.First.{First}
 use Rattle.spread.specs.Nets.{carries, reads-targets, reads-times, labels-of}
 use Rattle.spread.specs.Buffers.{Buffers, buffers, Good, Holds, carried-on}
-use Rattle.spread.specs.First.{net-on, FirstOf, FirstFrom}
+use Rattle.spread.specs.First.{net-on, FirstOf, from-travel-targets, from-closest-targets, FirstFrom}
 use Rattle.spread.specs.Begin.{Lengths, Begun, BeginsCell, BeganCell, BeganTo, Begins, BeginsEach}
 use Rattle.spread.proofs.Labels.{held, held-here, held-elsewhere, length-carried-on, not-carried-on}
 use Rattle.spread.proofs.Lengths.{carried-length-kept}
@@ -36,7 +36,7 @@ module _ {search : Search} {targets : List ℕ} {times values distances carried 
   -- The grids that are looked at are lent, since the rule reads them.
   begins-as :
       {rule : Rule} {from : ℕ} {cap : Float}
-      → search .rule ≡ rule → reads-targets rule ≡ true → (from ≡ 2 → reads-times rule ≡ true) → (3 ≤ from → carries rule ≡ true)
+      → search .rule ≡ rule → reads-targets rule ≡ true → (from ≡ from-travel-targets → reads-times rule ≡ true) → (from-closest-targets ≤ from → carries rule ≡ true)
       → ((c : ℕ) (first : First) → FirstFrom from cap targets times values c first → FirstOf search targets times values c first)
       → BeginsEach search from (carries rule) cap targets times values distances carried marks queue
   begins-as is-rule targeted timed valued firsts = record {

@@ -67,19 +67,32 @@ pub record FirstOf (search : Search) (targets : List ℕ) (times values : List F
 
 -- ---- from which targets a search begins, by number, which the loop has as a constant
 
+-- Those of search 1, of 2, of 3 and of 4. Any other number is for those of 5 and 6.
+abbrev pub from-plain-targets : ℕ
+from-plain-targets = 0
+
+abbrev pub from-targets : ℕ
+from-targets = 1
+
+abbrev pub from-travel-targets : ℕ
+from-travel-targets = 2
+
+abbrev pub from-closest-targets : ℕ
+from-closest-targets = 3
+
 -- A cell can be read in the grids that are looked at.
 pub record Reads (from : ℕ) (targets : List ℕ) (times values : List Float) (cell : ℕ) : Type 0 where
   pub target : cell < length targets
-  pub time : from ≡ 2 → cell < length times
-  pub value : 3 ≤ from → cell < length values
+  pub time : from ≡ from-travel-targets → cell < length times
+  pub value : from-closest-targets ≤ from → cell < length values
 
--- What the cell begins with: as in search 1, in 2, in 3, in 4, and in 5 and 6.
+-- What the cell begins with.
 abbrev pub FirstFrom : ℕ → Float → List ℕ → List Float → List Float → ℕ → First → Type 0
 FirstFrom from cap targets times values cell first =
     let byte = getD targets cell 0 in
     let time = getD times cell nan in
     let value = getD values cell nan in
-    cond (eqb from 0) (FromPlainTarget byte cap first)
-    (cond (eqb from 1) (FromTarget byte plus-zero cap first)
-    (cond (eqb from 2) (FromTravelTarget byte time cap first)
-    (cond (eqb from 3) (FromTarget byte value cap first) (FromValuedTarget byte value cap first))))
+    cond (eqb from from-plain-targets) (FromPlainTarget byte cap first)
+    (cond (eqb from from-targets) (FromTarget byte plus-zero cap first)
+    (cond (eqb from from-travel-targets) (FromTravelTarget byte time cap first)
+    (cond (eqb from from-closest-targets) (FromTarget byte value cap first) (FromValuedTarget byte value cap first))))
