@@ -1,7 +1,7 @@
 -- What a cell begins with, by the rule, is what the rule's net says. Assumes nothing.
-use mathlib.Core.Bool.{Bool, true, false, not, cond, _&&_}
+use mathlib.Core.Bool.{Bool, true, false, not, cond, _&&_, and-true, and-false, and-self, and-assoc}
 use mathlib.Core.List.{List}
-use mathlib.Core.Path.{_≡_, refl, sym, ap, _∙_, subst}
+use mathlib.Core.Path.{_≡_, sym, ap, _∙_, subst}
 use Prim.Native.Nat.{ℕ, suc, _+_, _<_}
 use native.Mathlib.Numerals.{add-one}
 use native.Mathlib.Omega.{arith}
@@ -58,17 +58,7 @@ is-no-target byte zero = rw (eq-eqb byte 0 zero)
 
 -- A target is nonzero and not nodata, so that it has data.
 target-has-data : (zero none : Bool) → not zero && not none ≡ (not zero && not none) && not none
-target-has-data true none = refl
-target-has-data false true = refl
-target-has-data false false = refl
-
-and-false : (b : Bool) → b && false ≡ false
-and-false true = refl
-and-false false = refl
-
-and-true : (b : Bool) → b && true ≡ b
-and-true true = refl
-and-true false = refl
+target-has-data zero none = sym (and-assoc (not zero) (not none) (not none) ∙ ap (λ b. not zero && b) (and-self (not none)))
 
 pair-of : {d x d′ x′ : Float} → d ≡ d′ → x ≡ x′ → _≡_ {A = Carried} (d, x) (d′, x′)
 pair-of {d} {x} {d′} {x′} p q = ap (λ y. (y, x)) p ∙ ap (λ y. (d′, y)) q
