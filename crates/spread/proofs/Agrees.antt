@@ -33,7 +33,7 @@ use Rattle.spread.specs.declared.search.Search.{Search}
 use Rattle.spread.specs.Nets.{Grids, sized, stepping, anywhere, net-by, net-of}
 
 -- A cell is tried exactly if it is permitted, or it is not permitted and the step to it is idle.
-abbrev pub KeptOrIdle : {L : Type 0} → Net L → Bool → Bool → ℕ → (L → L) → Type 0
+abbrev KeptOrIdle : {L : Type 0} → Net L → Bool → Bool → ℕ → (L → L) → Type 0
 KeptOrIdle net tries permits v f = (tries ≡ permits) ⊎ ((permits ≡ false) × Idle net v f)
 
 module _ {L M : Type 0} {seen : L → M} {net : Net L} where
@@ -60,7 +60,7 @@ module _ {L M : Type 0} {seen : L → M} {net : Net L} where
       go false false either rest = rest
 
   -- The same of a cell's neighbours, the straight ones and then the diagonal ones.
-  pub moves-steps :
+  moves-steps :
       (size : Size) (entering : Float → ℕ → L → L) (entering′ : Float → ℕ → M → M) (tries-straight tries-diagonal permits-straight permits-diagonal : ℕ → Bool)
       → ((s : Float) (v : ℕ) (x : L) → seen (entering s v x) ≡ entering′ s v (seen x))
       → ((v : ℕ) → KeptOrIdle net (tries-straight v) (permits-straight v) v (entering straight v))
@@ -107,7 +107,7 @@ module _ (times : Grid Float) (v : ℕ) (none : has-data times v ≡ false) wher
 
 module _ (search : Search) (grids : Grids) where
   -- A cell that is not permitted is one whose target is nodata. Its first label is NaN.
-  pub plain-simulated : Simulates (λ l. l .0) (net-by Plain search grids) (plain (sized search (grids .targets)) (search .limit))
+  plain-simulated : Simulates (λ l. l .0) (net-by Plain search grids) (plain (sized search (grids .targets)) (search .limit))
   unfolding plain
   plain-simulated =
       stepping-simulates (plain targets (search .limit)) (moves (search .size) anywhere anywhere (carrying plus-step)) (λ x y. refl)
@@ -122,7 +122,7 @@ module _ (search : Search) (grids : Grids) where
           ⊎-elim (λ some. inl (sym some)) (λ none. inr (none, shut (λ x. rw none (none-below-nan (x .0))))) (tested (target-data targets v))
 
   -- What is tried is what is permitted.
-  pub obstacles-simulated :
+  obstacles-simulated :
       (diagonals : BarrierDiagonals)
       → Simulates (λ l. l .0) (net-by (Obstacles diagonals) search grids)
       (with-obstacles (sized search (grids .targets)) (sized search (grids .obstacles)) diagonals)
@@ -140,7 +140,7 @@ module _ (search : Search) (grids : Grids) where
       side u v = free obstacles v && not (blocked diagonals obstacles u v)
 
   -- A cell that is not permitted has no target or no time. Its first label is NaN.
-  pub half-sum-simulated :
+  half-sum-simulated :
       Simulates (λ l. l .0) (net-by HalfSum search grids) (travel (sized search (grids .targets)) (sized search (grids .times)) (search .limit))
   unfolding travel
   half-sum-simulated =
@@ -159,7 +159,7 @@ module _ (search : Search) (grids : Grids) where
           ⊎-elim (λ some. inl (sym some)) (λ none. inr (none, shut (λ x. rw none (none-below-nan (x .0))))) (tested (both-data targets times v))
 
   -- A cell that is not permitted has no value, and then its first label is NaN, or no time, and then NaN is its candidate.
-  pub by-time-simulated :
+  by-time-simulated :
       Simulates (λ l. l) (net-by ByTime search grids)
       (closest-by-time (sized search (grids .targets)) (sized search (grids .times)) (sized search (grids .values)) (search .limit))
   unfolding closest-by-time
@@ -194,7 +194,7 @@ module _ (search : Search) (grids : Grids) where
           ⊎-elim (valued s v) (λ (none : has-data values v ≡ false). inr (rw none, shut (λ x. rw none (none-below-nan (x .0))))) (tested (has-data values v))
 
   -- A cell that is not permitted has no time, and NaN is its candidate.
-  pub mask-cell-simulated :
+  mask-cell-simulated :
       (origin : ℕ) → Simulates (λ l. l .0) (net-by (FromMaskCell origin) search grids) (from-mask-cell (sized search (grids .times)) origin)
   unfolding from-mask-cell
   mask-cell-simulated origin =
@@ -210,7 +210,7 @@ module _ (search : Search) (grids : Grids) where
           ⊎-elim (λ some. inl (sym some)) (λ none. inr (none, never-below (half-sum-never-below times v none u s))) (tested (has-data times v))
 
   -- What is tried is what is permitted.
-  pub amount-simulated :
+  amount-simulated :
       (origin : ℕ) → Simulates (λ l. l .0) (net-by (FromAmount origin) search grids) (from-amount (sized search (grids .times)) (search .limit) origin)
   unfolding from-amount
   amount-simulated origin =

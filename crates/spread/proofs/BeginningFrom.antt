@@ -34,7 +34,7 @@ abbrev starts-at : ℕ → List Float → ℕ → Bool
 starts-at origin times c = eqb c origin && not (nodata (getD times c nan))
 
 -- Nothing waits where every mark is cleared and the ring is new.
-pub nothing-waits : {n : ℕ} {marks queue : List ℕ} {ring : Ring} → NewRing ring → marks ≡ replicate n 0 → length queue ≡ suc n → Waiting n marks queue ring
+nothing-waits : {n : ℕ} {marks queue : List ℕ} {ring : Ring} → NewRing ring → marks ≡ replicate n 0 → length queue ≡ suc n → Waiting n marks queue ring
 unfolding among
 nothing-waits {n} {marks} {queue} {ring} new cleared slots =
     let long : length marks ≡ n = ap length cleared ∙ length-replicate n 0 in
@@ -60,9 +60,6 @@ module _
 
     none-wait : Waiting (length distances) cleared queue ring
     none-wait = nothing-waits new (cleared-is ∙ ap (λ k. replicate k 0) (begins .marks-length)) (begins .queue-length)
-
-    pub origin-inside : origin < length filled → origin < length times
-    origin-inside below = rw (begins .times-length) (rw filled-long at below)
 
     pub origin-joins : origin < length filled → Joining origin cleared queue ring
     origin-joins below =

@@ -33,7 +33,7 @@ not-carried-on false v x carried no-value = refl
 abbrev pub held : Search → List Float → List Float → ℕ → Carried
 held search distances carried c = labelled (search .rule) (getD distances c nan) (getD carried c nan)
 
-pub length-labels : (search : Search) (distances carried : List Float) → length (labels-of search distances carried) ≡ count (search .size)
+length-labels : (search : Search) (distances carried : List Float) → length (labels-of search distances carried) ≡ count (search .size)
 unfolding labels-of
 length-labels search distances carried = length-table (held search distances carried) 0 (count (search .size))
 

@@ -21,13 +21,13 @@ use Rattle.spread.proofs.Permits.{formed-by}
 use Rattle.spread.proofs.Labels.{label-held, labels-stored, length-carried-on, not-carried-on}
 
 module _ {search : Search} {v : ℕ} {distances carried : List Float} {marks queue : List ℕ} {ring : Ring} (tries : Trying search v (buffers distances carried marks queue ring)) where
-  pub distance-inside : v < length distances
+  distance-inside : v < length distances
   distance-inside = rw (tries .good .distances-length) (tries .inside)
 
-  pub value-inside : carries (search .rule) ≡ true → v < length carried
+  value-inside : carries (search .rule) ≡ true → v < length carried
   value-inside carrying = rw (tries .good .carried-length carrying) (tries .inside)
 
-  pub joins : Joining v marks queue ring
+  joins : Joining v marks queue ring
   joins = record {
     waits = subst (λ n. Waiting n marks queue ring) (sym (tries .good .marks-length)) (tries .good .waits);
     inside = rw (tries .good .marks-length) (tries .inside);
@@ -35,7 +35,7 @@ module _ {search : Search} {v : ℕ} {distances carried : List Float} {marks que
 
   -- A label that is stored in both buffers, and a cell that joins those that wait, are the machine's store. Proof: the machine stores in its list
   -- of labels what the buffers store, and its waiting cells are joined by the same cell.
-  pub store-does :
+  store-does :
       (d x : Float) {carried′ : List Float} → carried′ ≡ carried-on (search .rule) v x carried
       → {marks′ queue′ : List ℕ} {ring′ : Ring} → Joined v marks queue ring marks′ queue′ ring′
       → Does search (storing v (labelled (search .rule) d x)) (buffers distances carried marks queue ring) (buffers (set distances v d) carried′ marks′ queue′ ring′)

@@ -28,7 +28,7 @@ use Rattle.spread.proofs.Permits.{permitted-by, avoids-by, reads-by}
 -- ---- operations one after the other
 
 -- Nothing is done where the operation changes no state.
-pub does-nothing :
+does-nothing :
     {search : Search} {operation : Net Carried → State Carried → State Carried} {b : Buffers}
     → Good search b → ((net : Net Carried) (t : State Carried) → t ≡ operation net t) → Does search operation b b
 does-nothing {search} {b = b} good same = record {
@@ -37,7 +37,7 @@ does-nothing {search} {b = b} good same = record {
   kept = λ no-value. refl;
 }
 
-pub does-as :
+does-as :
     {search : Search} {operation same : Net Carried → State Carried → State Carried} {before after : Buffers}
     → ((net : Net Carried) (t : State Carried) → operation net t ≡ same net t) → Does search operation before after → Does search same before after
 does-as {search} {after = after} equal does = record {
@@ -46,7 +46,7 @@ does-as {search} {after = after} equal does = record {
   kept = does .kept;
 }
 
-pub does-both :
+does-both :
     {search : Search} {first then both : Net Carried → State Carried → State Carried} {before between after : Buffers}
     → Does search first before between → Does search then between after
     → ((net : Net Carried) (t : State Carried) → then net (first net t) ≡ both net t)

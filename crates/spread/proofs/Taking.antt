@@ -4,13 +4,13 @@ use mathlib.Core.List.{List, _∷_, _++_}
 use mathlib.Core.Path.{_≡_, refl, sym, ap, _∙_, subst}
 use Prim.Native.Nat.{ℕ, _<_}
 use lib.Ieee.{Float, nan}
-use lib.ListN.{getD}
+use lib.ListN.{getD, take}
 use Rattle.cells.specs.Neighbours.{Lists}
 use Rattle.cells.specs.Ring.{contents}
 use Rattle.cells.specs.declared.neighbours.Neighbours.{Neighbours}
 use Rattle.cells.specs.declared.ring.Ring.{Ring}
 use Rattle.cells.specs.declared.ring.Taken.{Taken}
-use Rattle.fifo.specs.Machine.{Net, label, scan, take}
+use Rattle.fifo.specs.Machine.{Net, scan}
 use Rattle.fifo.proofs.Induction.{awaiting, take-is-scan}
 use Rattle.rules.specs.Cells.{diagonal-neighbours}
 use Rattle.rules.specs.Sizes.{count}
@@ -45,7 +45,7 @@ module _
     some-wait = record { waits = subst (λ n. Waiting n marks queue ring) (sym (takes .good .marks-length)) (takes .good .waits); some = takes .some }
 
     module _ {marks′ : List ℕ} {taken : Taken} (took : TookFirst marks queue ring marks′ taken) where
-      pub cell-inside : taken .cell < count (search .size)
+      cell-inside : taken .cell < count (search .size)
       cell-inside = rw (takes .good .marks-length) at (took .inside)
 
       pub can-leave : CanLeave (search .rule) distances carried (taken .cell)
@@ -82,7 +82,7 @@ module _
         net-steps net follows =
             follows .steps (taken .cell)
             ∙ ap (λ l. straight-steps search ground (taken .cell) l ++ diagonal-steps search ground (taken .cell) (diagonal-neighbours (search .size) (taken .cell))) (sym (lists .straight-ones))
-            ∙ ap (λ l. straight-steps search ground (taken .cell) (lib.ListN.take (near .straight) (near .cells)) ++ diagonal-steps search ground (taken .cell) l) (sym (lists .diagonal-ones))
+            ∙ ap (λ l. straight-steps search ground (taken .cell) (take (near .straight) (near .cells)) ++ diagonal-steps search ground (taken .cell) l) (sym (lists .diagonal-ones))
             ∙ ap (λ u. listed-steps search ground u (near .cells) (near .straight) (near .count)) (sym (leaves .same-cell))
 
         -- The machine takes the same cell, leaves the same others waiting, and scans the same steps from the same label.

@@ -21,7 +21,7 @@ use Rattle.spread.specs.Waiting.{border, Waiting, Beginning, Began, Join
 
 module _ {seen : ℕ} {marks queue : List ℕ} {ring : Ring} (waits : Waiting seen marks queue ring) where
   -- There is room for a cell that does not wait: the waiting cells are cells, each once, and lack that one.
-  pub has-room : (v : ℕ) → v < length marks → among v (contents queue ring) ≡ false → HasRoom queue ring
+  has-room : (v : ℕ) → v < length marks → among v (contents queue ring) ≡ false → HasRoom queue ring
   has-room v inside out =
       let known : (c : ℕ) → In c (contents queue ring) → c < length marks = λ c i. let in-seen = waits .inside c i in let few = waits .few in omega arith in
       let fewer = room-for-new (length marks) v (contents queue ring) (waits .single) known inside out in
@@ -29,7 +29,7 @@ module _ {seen : ℕ} {marks queue : List ℕ} {ring : Ring} (waits : Waiting se
       record { good = waits .in-slots; room = omega arith }
 
   -- A cell that did not wait and was pushed is marked so.
-  pub waiting-pushed :
+  waiting-pushed :
       (v seen′ : ℕ) {queue′ : List ℕ} {ring′ : Ring}
       → v < length marks → among v (contents queue ring) ≡ false → Pushed queue ring v queue′ ring′
       → seen ≤ seen′ → seen′ ≤ length marks → v < seen′ → ((c : ℕ) → c < seen′ → (c ≡ v → ⊥) → c < seen)
@@ -48,7 +48,7 @@ module _ {seen : ℕ} {marks queue : List ℕ} {ring : Ring} (waits : Waiting se
       }
 
   -- Another mark at a cell that does not wait changes nothing.
-  pub waiting-marked :
+  waiting-marked :
       (v mark seen′ : ℕ) → v < length marks → (mark ≡ border → ⊥) → among v (contents queue ring) ≡ false
       → seen ≤ seen′ → seen′ ≤ length marks → ((c : ℕ) → c < seen′ → (c ≡ v → ⊥) → c < seen)
       → Waiting seen′ (set marks v mark) queue ring
