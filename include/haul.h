@@ -170,7 +170,7 @@ uint32_t haul_sum_within_travel_distance(
     int32_t value_rows, int32_t value_columns, /* size of the values */
     const float *values, size_t values_len,    /* what is summed; nodata adds nothing */
     float limit,                               /* the budget, above 0 */
-    uint32_t with_adjacent,                    /* the adjacent flag: 0 is no, any other number yes */
+    uint32_t include_adjacent,                 /* the adjacent flag: 0 is no, any other number yes */
     float *answer, size_t answer_len,          /* out: sums; 0 where there is no mask cell */
     float *distances, size_t distances_len,    /* work buffer, n */
     uint8_t *marks, size_t marks_len,          /* work buffer, n */

@@ -101,8 +101,8 @@ exports! {
     fn value_at_closest_less_than_travel_target(targets: u8, times: f32, values: f32)(limit: f32)
         (distances: f32, marks: u8);
 
-    /// Search 7. Adjacent: 0 is no, any other number yes.
-    fn sum_within_travel_distance(mask: u8, times: f32, values: f32)(limit: f32, adjacent: u32)
+    /// Search 7. Include adjacent: 0 is no, any other number yes.
+    fn sum_within_travel_distance(mask: u8, times: f32, values: f32)(limit: f32, include_adjacent: u32)
         (distances: f32, marks: u8, listed: u32, adjacent: u32);
 
     /// Search 8.

@@ -69,16 +69,18 @@ pub fn value_at_closest_less_than_travel_target(
 /// Search 7: for each mask cell the sum of the values of all cells that can be reached from it; other cells hold 0.
 ///
 /// Steps cost as in search 3. `limit` is a budget: a cell that is reached only above it is a [`Refusal::OverBudget`],
-/// which names the mask cell. With `adjacent`, a cell above, below, left or right of a reached cell that is itself not
-/// reached is added too, once for each mask cell; with an infinite budget none is.
+/// which names the mask cell. With `include_adjacent`, a cell above, below, left or right of a reached cell that is
+/// itself not reached is added too, once for each mask cell; with an infinite budget none is.
 pub fn sum_within_travel_distance(
     mask: Grid<u8>,
     times: Grid<f32>,
     values: Grid<f32>,
     limit: f32,
-    adjacent: bool,
+    include_adjacent: bool,
 ) -> Result<Sheet, Refusal> {
-    sheet(mask, |workspace, answer| workspace.sum_within_travel_distance(mask, times, values, limit, adjacent, answer))
+    sheet(mask, |workspace, answer| {
+        workspace.sum_within_travel_distance(mask, times, values, limit, include_adjacent, answer)
+    })
 }
 
 /// Search 8: for each cell the sum of the amounts whose travel time to it is within the budget `limit`.

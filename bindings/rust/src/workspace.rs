@@ -109,11 +109,11 @@ impl Workspace {
         times: Grid<f32>,
         values: Grid<f32>,
         limit: f32,
-        adjacent: bool,
+        include_adjacent: bool,
         answer: &mut [f32],
     ) -> Result<u64, Refusal> {
         self.search(mask, answer, |lent, takes, index| {
-            raw::sum_within_travel_distance(mask, times, values, limit, adjacent.into(), lent, takes, index)
+            raw::sum_within_travel_distance(mask, times, values, limit, include_adjacent.into(), lent, takes, index)
         })
     }
 

@@ -110,14 +110,14 @@ module _
 
 module _
     {answer answer₁ answer₂ distances distances₁ distances₂ : List Float} {marks marks₁ marks₂ listed listed₁ listed₂ adjacent adjacent₁ adjacent₂ queue queue₁ queue₂ : List ℕ} {takes takes₁ takes₂ index index₁ index₂ r s : ℕ}
-    (rows columns : ℤ) (mask : List ℕ) (time-rows time-columns : ℤ) (times : List Float) (value-rows value-columns : ℤ) (values : List Float) (limit : Float) (with-adjacent : ℕ)
+    (rows columns : ℤ) (mask : List ℕ) (time-rows time-columns : ℤ) (times : List Float) (value-rows value-columns : ℤ) (values : List Float) (limit : Float) (include-adjacent : ℕ)
   where
     pub exported-sum-within-decides :
-        ExportedSumWithin rows columns mask time-rows time-columns times value-rows value-columns values limit with-adjacent (slice answer answer₁) (slice distances distances₁) (slice marks marks₁) (slice listed listed₁) (slice adjacent adjacent₁) (slice queue queue₁) takes takes₁ index index₁ r
-        → ExportedSumWithin rows columns mask time-rows time-columns times value-rows value-columns values limit with-adjacent (slice answer answer₂) (slice distances distances₂) (slice marks marks₂) (slice listed listed₂) (slice adjacent adjacent₂) (slice queue queue₂) takes takes₂ index index₂ s
+        ExportedSumWithin rows columns mask time-rows time-columns times value-rows value-columns values limit include-adjacent (slice answer answer₁) (slice distances distances₁) (slice marks marks₁) (slice listed listed₁) (slice adjacent adjacent₁) (slice queue queue₁) takes takes₁ index index₁ r
+        → ExportedSumWithin rows columns mask time-rows time-columns times value-rows value-columns values limit include-adjacent (slice answer answer₂) (slice distances distances₂) (slice marks marks₂) (slice listed listed₂) (slice adjacent adjacent₂) (slice queue queue₂) takes takes₂ index index₂ s
         → SameReport (λ a b. SameSums a b answer₁ answer₂ distances₁ distances₂ marks₁ marks₂ listed₁ listed₂ adjacent₁ adjacent₂ queue₁ queue₂) takes₁ takes₂ index₁ index₂ r s
     exported-sum-within-decides p q =
-        let left = sum-within-decided (size rows columns) mask (size time-rows time-columns) times (size value-rows value-columns) values limit (yes with-adjacent) (p .promised) (q .promised) in
+        let left = sum-within-decided (size rows columns) mask (size time-rows time-columns) times (size value-rows value-columns) values limit (yes include-adjacent) (p .promised) (q .promised) in
         exported-decides p q left (left .same .said)
 
 -- ---- search 8

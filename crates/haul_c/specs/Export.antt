@@ -92,8 +92,8 @@ ExportedClosestLessThan rows columns targets time-rows time-columns times value-
 
 -- 7: haul_sum_within_travel_distance.
 abbrev pub ExportedSumWithin : ℤ → ℤ → List ℕ → ℤ → ℤ → List Float → ℤ → ℤ → List Float → Float → ℕ → Slice Float → Slice Float → Slice ℕ → Slice ℕ → Slice ℕ → Slice ℕ → ℕ → ℕ → ℕ → ℕ → ℕ → Type 0
-ExportedSumWithin rows columns mask time-rows time-columns times value-rows value-columns values limit with-adjacent answer distances marks listed adjacent queue =
-    Exported (SumWithinTravelDistance (size rows columns) mask (size time-rows time-columns) times (size value-rows value-columns) values limit (yes with-adjacent) answer distances marks listed adjacent queue)
+ExportedSumWithin rows columns mask time-rows time-columns times value-rows value-columns values limit include-adjacent answer distances marks listed adjacent queue =
+    Exported (SumWithinTravelDistance (size rows columns) mask (size time-rows time-columns) times (size value-rows value-columns) values limit (yes include-adjacent) answer distances marks listed adjacent queue)
 
 -- 8: haul_sum_targets_within_travel_distance.
 abbrev pub ExportedSumTargets : ℤ → ℤ → List Float → ℤ → ℤ → List Float → Float → Slice Float → Slice Float → Slice ℕ → Slice ℕ → Slice ℕ → ℕ → ℕ → ℕ → ℕ → ℕ → Type 0

@@ -27,7 +27,7 @@ pub extern "C" fn haul_sum_within_travel_distance(
     value_columns: i32,
     values: &[f32],
     limit: f32,
-    with_adjacent: u32,
+    include_adjacent: u32,
     answer: &mut [f32],
     distances: &mut [f32],
     marks: &mut [u8],
@@ -37,7 +37,7 @@ pub extern "C" fn haul_sum_within_travel_distance(
     takes: &mut u64,
     index: &mut u32,
 ) -> u32
-    ensures { λ r. ⌜ ExportedSumWithin rows columns (now (mask .entry)) «time_rows» «time_columns» (now (times .entry)) «value_rows» «value_columns» (now (values .entry)) limit «with_adjacent» (slice (now (answer .entry)) (now (answer .exit))) (slice (now (distances .entry)) (now (distances .exit))) (slice (now (marks .entry)) (now (marks .exit))) (slice (now (listed .entry)) (now (listed .exit))) (slice (now (adjacent .entry)) (now (adjacent .exit))) (slice (now (queue .entry)) (now (queue .exit))) (now (takes .entry)) (now (takes .exit)) (now (index .entry)) (now (index .exit)) r ⌝ }
+    ensures { λ r. ⌜ ExportedSumWithin rows columns (now (mask .entry)) «time_rows» «time_columns» (now (times .entry)) «value_rows» «value_columns» (now (values .entry)) limit «include_adjacent» (slice (now (answer .entry)) (now (answer .exit))) (slice (now (distances .entry)) (now (distances .exit))) (slice (now (marks .entry)) (now (marks .exit))) (slice (now (listed .entry)) (now (listed .exit))) (slice (now (adjacent .entry)) (now (adjacent .exit))) (slice (now (queue .entry)) (now (queue .exit))) (now (takes .entry)) (now (takes .exit)) (now (index .entry)) (now (index .exit)) r ⌝ }
 {
     let size = Size {
         rows,
@@ -51,7 +51,7 @@ pub extern "C" fn haul_sum_within_travel_distance(
         rows: value_rows,
         cols: value_columns,
     };
-    let include_adjacent = is_yes(with_adjacent);
+    let included = is_yes(include_adjacent);
     let answered = sum_within_travel_distance(
         size,
         mask,
@@ -60,7 +60,7 @@ pub extern "C" fn haul_sum_within_travel_distance(
         values_size,
         values,
         limit,
-        include_adjacent,
+        included,
         answer,
         distances,
         marks,

@@ -32,7 +32,7 @@ pub fn search_7(
     let values_size = grid.size;
     let spacing = settings.spacing;
     let limit = spacing.limit;
-    let with_adjacent = settings.adjacent;
+    let include_adjacent = settings.adjacent;
     let answer = sum_within_travel_distance(
         size,
         mask,
@@ -41,7 +41,7 @@ pub fn search_7(
         values_size,
         values,
         limit,
-        with_adjacent,
+        include_adjacent,
         cells,
         distances,
         marks,
