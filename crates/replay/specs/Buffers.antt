@@ -1,9 +1,13 @@
--- What a comparison shows. Definitions only.
+-- How long a buffer is, and what a comparison shows. Definitions only.
 use Prim.Native.Nat.{ℕ, _<_}
 use mathlib.Core.Path.{_≡_}
 use mathlib.Core.List.{List}
 use lib.ListN.{length, getD}
 use lib.Ieee.{Float, nan, binary32, toBits}
+
+-- The most cells of an answer.
+abbrev pub most-cells : ℕ
+most-cells = 1024
 
 -- Every cell is v.
 abbrev pub AllAre : List ℕ → ℕ → Type 0

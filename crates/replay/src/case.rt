@@ -1,6 +1,7 @@
 // A whole case: its settings, its grids and its stored answer.
 ghost use Prim.Native.Nat.{_≤_};
 ghost use lib.ListN.{length};
+ghost use Rattle.replay.specs.Buffers.{most-cells};
 use crate::grids;
 use crate::grids::Grid;
 use crate::settings;
@@ -49,8 +50,8 @@ fn has_values(search: u64) -> bool {
 
 // The number of the answer's cells, which is that of the search's first grid.
 fn answer_cells(search: u64, targets: usize, times: usize) -> usize
-    requires { ⌜ (targets ≤ 1024) × (times ≤ 1024) ⌝ }
-    ensures { λ r. ⌜ r ≤ 1024 ⌝ }
+    requires { ⌜ (targets ≤ most-cells) × (times ≤ most-cells) ⌝ }
+    ensures { λ r. ⌜ r ≤ most-cells ⌝ }
 {
     if has_targets(search) {
         return targets;
@@ -72,7 +73,7 @@ fn read_grids(
     ensures { λ r. ⌜ r .obstacles .len ≤ length (now (obstacles .entry)) ⌝ }
     ensures { λ r. ⌜ r .times .len ≤ length (now (times .entry)) ⌝ }
     ensures { λ r. ⌜ r .values .len ≤ length (now (values .entry)) ⌝ }
-    ensures { λ r. ⌜ r .n ≤ 1024 ⌝ }
+    ensures { λ r. ⌜ r .n ≤ most-cells ⌝ }
 {
     let of_targets = grids::byte_grid(text, at, has_targets(search), b"targets ", targets);
     let at = of_targets.at;
@@ -103,12 +104,12 @@ pub fn read_case(
     values: &mut [f32],
     bits: &mut [u32],
 ) -> Case
-    requires { ⌜ 1024 ≤ length (now bits) ⌝ }
+    requires { ⌜ most-cells ≤ length (now bits) ⌝ }
     ensures { λ r. ⌜ r .grids .targets .len ≤ length (now (targets .entry)) ⌝ }
     ensures { λ r. ⌜ r .grids .obstacles .len ≤ length (now (obstacles .entry)) ⌝ }
     ensures { λ r. ⌜ r .grids .times .len ≤ length (now (times .entry)) ⌝ }
     ensures { λ r. ⌜ r .grids .values .len ≤ length (now (values .entry)) ⌝ }
-    ensures { λ r. ⌜ r .grids .n ≤ 1024 ⌝ }
+    ensures { λ r. ⌜ r .grids .n ≤ most-cells ⌝ }
 {
     let settings = settings::head(text, At { pos, ok: true });
     let at = settings.at;

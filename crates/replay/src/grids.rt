@@ -1,6 +1,7 @@
 // The grids of a case, read into lent buffers.
 ghost use Prim.Native.Nat.{_≤_};
 ghost use lib.ListN.{length};
+ghost use Rattle.replay.specs.Buffers.{most-cells};
 use crate::words;
 use crate::words::At;
 use rules::Size;
@@ -9,7 +10,7 @@ use rules::Size;
 pub const CELLS: usize = 1024;
 
 // The most slots of a queue, which has one more, and the most cells of a stored grid.
-pub const SLOTS: usize = 1025;
+pub const SLOTS: usize = CELLS + 1;
 
 // A grid that was read: its size, the cells that an answer of that size has, how many cells stand
 // in its buffer, and the place past it.
@@ -22,7 +23,7 @@ pub struct Grid {
 
 // A grid that the search does not have.
 fn no_grid(at: At) -> Grid
-    ensures { λ r. ⌜ (r .len ≤ 0) × (r .n ≤ 1024) ⌝ }
+    ensures { λ r. ⌜ (r .len ≤ 0) × (r .n ≤ most-cells) ⌝ }
 {
     Grid {
         size: Size { rows: 0, cols: 0 },
@@ -34,7 +35,7 @@ fn no_grid(at: At) -> Grid
 
 // Rows times columns, and 0 where that is more than an answer can have here.
 fn cell_count(rows: u64, cols: u64) -> usize
-    ensures { λ r. ⌜ r ≤ 1024 ⌝ }
+    ensures { λ r. ⌜ r ≤ most-cells ⌝ }
 {
     let most = CELLS as u64;
     if most < rows {
@@ -52,7 +53,7 @@ fn cell_count(rows: u64, cols: u64) -> usize
 
 // A grid's name, size and number of cells, which is at most `most`. The place is before the cells.
 fn shape(text: &[u8], at: At, name: &[u8], most: usize) -> Grid
-    ensures { λ r. ⌜ (r .len ≤ most) × (r .n ≤ 1024) ⌝ }
+    ensures { λ r. ⌜ (r .len ≤ most) × (r .n ≤ most-cells) ⌝ }
 {
     let rows = words::signed(text, words::literal(text, at, name));
     let at = rows.at;
@@ -112,7 +113,7 @@ pub fn patterns(text: &[u8], from: At, cells: &mut [u32]) -> At {
 
 // The line of a grid of bytes, where the search has it.
 pub fn byte_grid(text: &[u8], at: At, has: bool, name: &[u8], cells: &mut [u8]) -> Grid
-    ensures { λ r. ⌜ (r .len ≤ length (now (cells .entry))) × (r .n ≤ 1024) ⌝ }
+    ensures { λ r. ⌜ (r .len ≤ length (now (cells .entry))) × (r .n ≤ most-cells) ⌝ }
 {
     if !has {
         return no_grid(at);
@@ -132,7 +133,7 @@ pub fn byte_grid(text: &[u8], at: At, has: bool, name: &[u8], cells: &mut [u8]) 
 
 // The line of a grid of floats, where the search has it.
 pub fn float_grid(text: &[u8], at: At, has: bool, name: &[u8], cells: &mut [f32]) -> Grid
-    ensures { λ r. ⌜ (r .len ≤ length (now (cells .entry))) × (r .n ≤ 1024) ⌝ }
+    ensures { λ r. ⌜ (r .len ≤ length (now (cells .entry))) × (r .n ≤ most-cells) ⌝ }
 {
     if !has {
         return no_grid(at);

@@ -1,9 +1,10 @@
--- `grids::cell_count` meets its contract. Two sides of at most 1,024 have a product that fits. Assumes nothing.
+-- `grids::cell_count` meets its contract. Two sides of at most `most-cells` have a product that fits. Assumes nothing.
 use Prim.Native.Nat.{_≤_}
 use native.Mathlib.Nat.{mul-le-mul, lt-of-le-of-lt}
 use native.Mathlib.Omega.{arith}
 use borrow.Author.Needs.{needs}
 use lib.Dec.{lit<}
+use Rattle.replay.specs.Buffers.{most-cells}
 use Rattle.replay.proofs.grids.cell_count.Statement.{statement}
 use Rattle.replay.proofs.grids.cell_count.Tie as tie
 
@@ -15,8 +16,8 @@ returns-2 c = search needs
 
 mul-n : tie.Need-mul-n
 mul-n c =
-    let rows : c .before .before .args .rows ≤ 1024 = omega arith in
-    let cols : c .before .before .args .cols ≤ 1024 = omega arith in
+    let rows : c .before .before .args .rows ≤ most-cells = omega arith in
+    let cols : c .before .before .args .cols ≤ most-cells = omega arith in
     record { fits = lt-of-le-of-lt (mul-le-mul rows cols) (lit< tt) }
 
 returns-3 : tie.Need-returns-3
