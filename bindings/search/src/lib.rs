@@ -4,84 +4,69 @@
 /// Nodata in a grid of bytes; in a grid of floats it is NaN.
 pub const BYTE_NODATA: u8 = 255;
 
-/// What a grid is for.
-#[derive(Clone, Copy, Debug, PartialEq, Eq)]
-pub enum Role {
-    Targets,
-    Mask,
-    Obstacles,
-    Times,
-    Values,
-    Amounts,
+/// An enum that says of each variant its name: with it come `ALL` of them, in this order, and `name`.
+macro_rules! named {
+    ($(#[$doc:meta])* $of:ident { $($variant:ident = $name:literal,)+ }) => {
+        $(#[$doc])*
+        #[derive(Clone, Copy, Debug, PartialEq, Eq)]
+        pub enum $of {
+            $($variant,)+
+        }
+
+        impl $of {
+            pub const ALL: [$of; [$($name),+].len()] = [$($of::$variant),+];
+
+            pub fn name(self) -> &'static str {
+                match self {
+                    $($of::$variant => $name,)+
+                }
+            }
+        }
+    };
+}
+
+named! {
+    /// What a grid is for. The name stands in sentences, and is the option of `sheet` that names the grid's file.
+    Role {
+        Targets = "targets",
+        Mask = "mask",
+        Obstacles = "obstacles",
+        Times = "times",
+        Values = "values",
+        Amounts = "amounts",
+    }
 }
 
 impl Role {
-    pub const ALL: [Role; 6] = [Role::Targets, Role::Mask, Role::Obstacles, Role::Times, Role::Values, Role::Amounts];
-
-    /// Its name in sentences, and the option of `sheet` that names its file.
-    pub fn name(self) -> &'static str {
-        match self {
-            Role::Targets => "targets",
-            Role::Mask => "mask",
-            Role::Obstacles => "obstacles",
-            Role::Times => "times",
-            Role::Values => "values",
-            Role::Amounts => "amounts",
-        }
-    }
-
     /// Whether its cells are bytes; else they are floats.
     pub fn is_bytes(self) -> bool {
         matches!(self, Role::Targets | Role::Mask | Role::Obstacles)
     }
 }
 
-/// The eight searches, in document 01's order.
-#[derive(Clone, Copy, Debug, PartialEq, Eq)]
-pub enum Search {
-    DistancesUpTo,
-    DistanceWithObstacles,
-    TravelDistancesUpTo,
-    ValueAtClosestTarget,
-    ValueAtClosestTravelTarget,
-    ValueAtClosestLessThanTravelTarget,
-    SumWithinTravelDistance,
-    SumTargetsWithinTravelDistance,
+named! {
+    /// The eight searches, in document 01's order.
+    Search {
+        DistancesUpTo = "distances_up_to",
+        DistanceWithObstacles = "distance_with_obstacles",
+        TravelDistancesUpTo = "travel_distances_up_to",
+        ValueAtClosestTarget = "value_at_closest_target",
+        ValueAtClosestTravelTarget = "value_at_closest_travel_target",
+        ValueAtClosestLessThanTravelTarget = "value_at_closest_less_than_travel_target",
+        SumWithinTravelDistance = "sum_within_travel_distance",
+        SumTargetsWithinTravelDistance = "sum_targets_within_travel_distance",
+    }
 }
 
 use Search::*;
 
 impl Search {
-    pub const ALL: [Search; 8] = [
-        DistancesUpTo,
-        DistanceWithObstacles,
-        TravelDistancesUpTo,
-        ValueAtClosestTarget,
-        ValueAtClosestTravelTarget,
-        ValueAtClosestLessThanTravelTarget,
-        SumWithinTravelDistance,
-        SumTargetsWithinTravelDistance,
-    ];
-
     pub fn from_number(number: u8) -> Option<Search> {
         Search::ALL.into_iter().find(|search| search.number() == number)
     }
 
     pub fn number(self) -> u8 {
         self as u8 + 1
-    }
-
-    pub fn name(self) -> &'static str {
-        match self {
-            DistancesUpTo => "distances_up_to",
-            DistanceWithObstacles => "distance_with_obstacles",
-            TravelDistancesUpTo => "travel_distances_up_to",
-            ValueAtClosestTarget => "value_at_closest_target",
-            ValueAtClosestTravelTarget => "value_at_closest_travel_target",
-            ValueAtClosestLessThanTravelTarget => "value_at_closest_less_than_travel_target",
-            SumWithinTravelDistance => "sum_within_travel_distance",
-            SumTargetsWithinTravelDistance => "sum_targets_within_travel_distance",
-        }
     }
 
     /// The grids that it takes, in the order of the grid file's tags.
