@@ -1,7 +1,7 @@
 -- Document 01, "Grid file and program": what the program answers to a file. Definitions only.
 use mathlib.Core.Bool.{Bool, cond}
 use mathlib.Core.List.{List, []}
-use Prim.Native.Nat.{ℕ, suc, _≤_}
+use Prim.Native.Nat.{ℕ, suc, _+_, _*_, _≤_}
 use lib.Dec.{leb, eqb}
 use lib.Ieee.{Float}
 use lib.ListN.{length, replicate}
@@ -13,6 +13,7 @@ use Rattle.rules.specs.Distances.{outcome-1, outcome-2, outcome-3}
 use Rattle.rules.specs.Values.{outcome-4, outcome-5, outcome-6}
 use Rattle.rules.specs.Sums.{outcome-7, outcome-8}
 use Rattle.calls.specs.Given.{lent}
+use Rattle.gridfile.specs.Request.{most-file-cells}
 use Rattle.gridfile.specs.Contents.{Asked, refuses, asks, asked}
 use Rattle.gridfile.specs.Answers.{Written, answer-file}
 
@@ -43,7 +44,7 @@ answer-to input = answer-file (outcome-of (asked input))
 
 -- The longest answer has 4,114 bytes: the status, the takes, and a grid of 1,024 cells.
 abbrev pub longest : ℕ
-longest = 4114
+longest = 4 + 11 + 3 + 4 * most-file-cells
 
 -- An output that is shorter than the longest answer gets nothing, whatever the answer is.
 abbrev pub bytes-for : List ℕ → ℕ → List ℕ

@@ -1,16 +1,19 @@
 // The answer of a file.
 use crate::grids::answer_request;
+use gridfile::FIELD_MAX;
+use gridfile::FILE_CELLS_MAX;
+use gridfile::HEAD_END;
 use gridfile::Parsed;
 use gridfile::parse;
 use gridfile::write_refused;
 ghost use Rattle.answer.specs.Answering.{Answered};
 
 // The bytes of the longest answer: the status, the takes, and a grid of 1,024 cells.
-pub const LONGEST: usize = 4114;
+pub const LONGEST: usize = 4 + 11 + 3 + 4 * FILE_CELLS_MAX;
 
-// The bytes of the longest file that keeps the form: 24, and three grid fields of 3 + 4,096.
+// The bytes of the longest file that keeps the form: its head, and three grid fields of 3 + 4,096.
 // (That is refusal 3, as its byte grid has more than n cells; each longer one is refusal 8.)
-pub const LONGEST_FILE: usize = 12_321;
+pub const LONGEST_FILE: usize = HEAD_END + 3 * (3 + FIELD_MAX);
 
 // The number that the file form is refused with.
 const BAD_FILE: u8 = 8;

@@ -74,9 +74,13 @@ module _ (f : Field) (fields : List Field) (a : ℕ) (is : f .tag ≡ a) where
   rest-small [] apart small = tt
   rest-small (b ∷ more) apart small = (subst (λ (p : Part). p .len ≤ longest-field) (later-content b (apart .0)) (small .0), rest-small more (apart .1) (small .1))
 
--- Fields with distinct tags have at most 3 + 4,096 bytes each. Proof: by the fields; what the tag of the first finds is the first's content,
+-- The bytes of the longest grid field: three of the head and those of the content.
+abbrev longest-grid : ℕ
+longest-grid = 3 + longest-field
+
+-- Fields with distinct tags have at most that many bytes each. Proof: by the fields; what the tag of the first finds is the first's content,
 -- and what another tag finds is among the others.
-few-bytes : (fields : List Field) (ts : List ℕ) → tags fields ≡ ts → Distinct ts → All-small fields ts → bytes-of fields ≤ 4099 * length ts
+few-bytes : (fields : List Field) (ts : List ℕ) → tags fields ≡ ts → Distinct ts → All-small fields ts → bytes-of fields ≤ longest-grid * length ts
 few-bytes [] [] e apart small = omega arith
 few-bytes [] (a ∷ more) e apart small = never cc
 few-bytes (f ∷ fields) [] e apart small = never cc
@@ -91,9 +95,9 @@ few-bytes (f ∷ fields) (a ∷ more) e apart small =
 grids-short :
     (fields : List Field) (search : ℕ) → tags fields ≡ grids-of search
     → content-of 0x04 fields .len ≤ longest-field → content-of 0x05 fields .len ≤ longest-field → content-of 0x06 fields .len ≤ longest-field → content-of 0x07 fields .len ≤ longest-field
-    → bytes-of fields ≤ 12297
+    → bytes-of fields ≤ 3 * longest-grid
 grids-short fields search are t o ti v =
-    for-grids (λ ts. tags fields ≡ ts → bytes-of fields ≤ 12297)
+    for-grids (λ ts. tags fields ≡ ts → bytes-of fields ≤ 3 * longest-grid)
     (λ e. let few = few-bytes fields _ e (tt, tt) (t, tt) in omega arith)
     (λ e. let few = few-bytes fields _ e ((refl, tt), (tt, tt)) (t, (o, tt)) in omega arith)
     (λ e. let few = few-bytes fields _ e ((refl, tt), (tt, tt)) (t, (ti, tt)) in omega arith)
@@ -105,7 +109,7 @@ grids-short fields search are t o ti v =
 
 -- ---- files
 
-found-short : (search long : ℕ) (w : Fields) (g : Grids) → Spans 0 long w → grids-in search w ≡ Exactly g → grids-fit g ≡ true → long ≤ 12297
+found-short : (search long : ℕ) (w : Fields) (g : Grids) → Spans 0 long w → grids-in search w ≡ Exactly g → grids-fit g ≡ true → long ≤ 3 * longest-grid
 found-short search long w g spans e fit =
     let found = exactly-found search w g e in
     let fields = found .fields in
@@ -116,7 +120,7 @@ found-short search long w g spans e fit =
 
 -- The longest file that keeps the form: 24 bytes, and three grid fields of 3 + 4,096.
 abbrev pub longest-file : ℕ
-longest-file = 12321
+longest-file = 24 + 3 * longest-grid
 
 pub good-short : (file : List ℕ) (r : Request) → parsed file ≡ Good r → length file ≤ longest-file
 good-short file r e =

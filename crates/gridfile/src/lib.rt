@@ -26,6 +26,7 @@ pub use fields::Part;
 pub use grids::FIELD_MAX;
 pub use grids::Grids;
 pub use head::FILE_CELLS_MAX;
+pub use head::HEAD_END;
 pub use request::Parsed;
 pub use request::Request;
 pub use request::diagonals_of;
