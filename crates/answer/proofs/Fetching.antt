@@ -4,13 +4,13 @@ use mathlib.Core.List.{List, _++_}
 use Prim.Native.Nat.{ℕ, _+_, _/_, _≤_}
 use lib.Ieee.{Float}
 use lib.ListN.{length, take}
+use lib.Seq.{take-at}
 use Rattle.gridfile.specs.declared.fields.Part.{Part}
 use Rattle.gridfile.specs.Contents.{bytes-in, floats-in}
 use Rattle.gridfile.proofs.Stores.{part-long, floats-long}
-use Rattle.answer.proofs.Lengths.{prefix-is}
 
 pub fetched-bytes : (file : List ℕ) (p : Part) (rest after : List ℕ) → p .start + p .len ≤ length file → after ≡ bytes-in file p ++ rest → take (p .len) after ≡ bytes-in file p
-fetched-bytes file p rest after inside is = ap (take (p .len)) is ∙ prefix-is (p .len) (bytes-in file p) rest (part-long file (p .start) (p .len) inside)
+fetched-bytes file p rest after inside is = ap (take (p .len)) is ∙ take-at (bytes-in file p) rest (p .len) (part-long file (p .start) (p .len) inside)
 
 pub fetched-floats : (file : List ℕ) (p : Part) (rest after : List Float) → after ≡ floats-in file p ++ rest → take (p .len / 4) after ≡ floats-in file p
-fetched-floats file p rest after is = ap (take (p .len / 4)) is ∙ prefix-is (p .len / 4) (floats-in file p) rest (floats-long file (p .start) (p .len / 4))
+fetched-floats file p rest after is = ap (take (p .len / 4)) is ∙ take-at (floats-in file p) rest (p .len / 4) (floats-long file (p .start) (p .len / 4))

@@ -6,13 +6,14 @@ use Prim.Native.Nat.{ℕ, _≤_, _<_}
 use native.Mathlib.Omega.{arith}
 use borrow.Author.Tests.{le-leb, lt-leb}
 use lib.Ieee.{Float}
-use lib.ListN.{length, take, length-append}
+use lib.ListN.{length, take}
+use lib.Seq.{take-at}
 use Rattle.rules.specs.Sizes as rules
 use Rattle.rules.specs.Sizes.{number, number-at, Outcome, refused, accepted}
 use Rattle.calls.specs.declared.answer.Answer.{Answer}
 use Rattle.calls.specs.declared.answer.Answer.the-variants.{Accepted, Refused}
 use Rattle.calls.specs.declared.numbers.Numbered.{Numbered}
-use Rattle.calls.specs.Answer.{refusal-number, refusal, takes}
+use Rattle.calls.specs.Answer.{refusal-number}
 use Rattle.calls.specs.Numbered.{numbered-as}
 use Rattle.calls.specs.Promise.{Slice, Promised}
 use Rattle.calls.proofs.Promises.{takes-one, refusal-no-takes}
@@ -21,21 +22,17 @@ use Rattle.gridfile.specs.declared.request.Parsed.{Parsed}
 use Rattle.gridfile.specs.declared.request.Parsed.the-variants.{Good}
 use Rattle.gridfile.specs.Request.{most-file-cells, parsed}
 use Rattle.gridfile.specs.Contents.{bytes-in, floats-in, written-out, asked}
-use Rattle.gridfile.specs.Answers.{Written, number-field, grid-field, answer-file}
-use Rattle.gridfile.proofs.Stores.{number-field-long, grid-field-long}
+use Rattle.gridfile.specs.Answers.{Written, answer-file}
+use Rattle.gridfile.proofs.Stores.{number-field-long, refused-at-long, accepted-long}
 use Rattle.answer.specs.Answering.{outcome-of, longest, Sent, Answered}
 use Rattle.answer.specs.Lending.{stated, OutcomeSent, found}
-use Rattle.answer.proofs.Lengths.{prefix-is}
 
 -- ---- the answer of a search is its outcome
-
-same-refusal : (r s : rules.Refusal) → refusal r ≡ refusal s → r ≡ s
-same-refusal r s e = cc
 
 -- A call that keeps its promise answers, with its answer slice, what its outcome is. Proof: it says the outcome's refusal or takes, which
 -- decides the case; and an accepted call's answer slice is the outcome's grid.
 pub stated-is : (outcome : Outcome) (r : Answer) {answer : Slice Float} {marks queue : Slice ℕ} → Promised r answer marks queue outcome → stated r (answer .after) ≡ outcome
-stated-is (refused s) (Refused x) p = ap refused (same-refusal (refusal-number x) s (p .says))
+stated-is (refused s) (Refused x) p = cc
 stated-is (refused s) (Accepted counts) p = absurd (refusal-no-takes s (counts .takes) (sym (p .says)))
 stated-is (accepted t grid) (Refused x) p = absurd (refusal-no-takes (refusal-number x) t (p .says))
 stated-is (accepted t grid) (Accepted counts) {answer} p =
@@ -45,31 +42,13 @@ stated-is (accepted t grid) (Accepted counts) {answer} p =
 
 module _ {before after : List ℕ} {count : ℕ} where
   pub short-refused : (k : ℕ) → Written (answer-file (refused (number k))) before after count → OutcomeSent (refused (number k)) before after count
-  short-refused k w = record { written = w; short = let all = w .all in let four = number-field-long 0x10 1 k in omega arith }
+  short-refused k w = record { written = w; short = omega (arith, number-field-long 0x10 1 k) }
 
   pub short-refused-at : (k i : ℕ) → Written (answer-file (refused (number-at k i))) before after count → OutcomeSent (refused (number-at k i)) before after count
-  short-refused-at k i w = record {
-    written = w;
-    short =
-        let all = w .all in
-        let four = number-field-long 0x10 1 k in
-        let seven = number-field-long 0x11 4 i in
-        let both = length-append (number-field 0x10 1 k) (number-field 0x11 4 i) in
-        omega arith;
-  }
+  short-refused-at k i w = record { written = w; short = omega (arith, refused-at-long k i) }
 
   pub short-accepted : (t : ℕ) (grid : List Float) → length grid ≤ most-file-cells → Written (answer-file (accepted t grid)) before after count → OutcomeSent (accepted t grid) before after count
-  short-accepted t grid few w = record {
-    written = w;
-    short =
-        let all = w .all in
-        let four = number-field-long 0x10 1 0 in
-        let eleven = number-field-long 0x12 8 t in
-        let cells = grid-field-long 0x13 grid in
-        let first = length-append (number-field 0x10 1 0) (number-field 0x12 8 t) in
-        let both = length-append (number-field 0x10 1 0 ++ number-field 0x12 8 t) (grid-field 0x13 grid) in
-        omega arith;
-  }
+  short-accepted t grid few w = record { written = w; short = omega (arith, accepted-long t grid) }
 
 -- ---- what was written is what is meant
 
@@ -85,7 +64,7 @@ module _ {before after : List ℕ} {count : ℕ} where
   pub of-front :
       (r : Answer) {meant : Outcome} (n : ℕ) (cells rest : List Float) → length cells ≡ n → stated r cells ≡ meant
       → OutcomeSent (stated r (take n (cells ++ rest))) before after count → OutcomeSent meant before after count
-  of-front r n cells rest long is sent = subst (λ (o : Outcome). OutcomeSent o before after count) (ap (stated r) (prefix-is n cells rest long) ∙ is) sent
+  of-front r n cells rest long is sent = subst (λ (o : Outcome). OutcomeSent o before after count) (ap (stated r) (take-at cells rest n long) ∙ is) sent
 
   -- On the grids that stand in the file.
   pub on-grids :

@@ -17,7 +17,7 @@ use Rattle.gridfile.proofs.Places.{look, looked-for}
 -- ---- the first three fields
 
 -- A reading of fields that refuses everything that does not begin with a field of this tag and length.
-pub record Wants (tag len : ℕ) (P : Fields → Parsed) : Type 0 where
+record Wants (tag len : ℕ) (P : Fields → Parsed) : Type 0 where
   pub not-cut : P cut ≡ Bad
   pub not-none : P (whole []) ≡ Bad
   pub not-other : (f : Field) (rest : Fields) → is-field tag len f ≡ false → P (and-then f rest) ≡ Bad
@@ -28,7 +28,7 @@ module _ (file : List ℕ) (at tag len : ℕ) (P : Fields → Parsed) (wants : W
 
   -- Such a reading goes on after that field where it stands, and refuses where it does not. Proof: the field that stands at the place has this tag and
   -- length, or another length, or another tag, or there is none, or the file is cut; the reading refuses all but the first.
-  pub first-field : P (fields-from file at) ≡ cond (stands-at file at tag len) after Bad
+  first-field : P (fields-from file at) ≡ cond (stands-at file at tag len) after Bad
   first-field =
       look file at tag (λ s w. P w ≡ cond (long len s) after Bad)
       (λ n room. by-test (P (and-then (field tag (part (at + 3) n)) (fields-from file (at + 3 + n))) ≡ cond (eqb n len) after Bad) (eqb n len)
@@ -137,7 +137,7 @@ module _ (file : List ℕ) where
   tested false false fits small h g follows e e′ = refl
 
   -- After the head, a file is judged by its grids alone: that the tags rise follows from their being exactly the search's.
-  pub grids-judged : (w : Fields) → let h = head-of file 3 9 16 in judged file (and-then f-01 (and-then f-02 (and-then f-03 w))) ≡ requested h (grids-in (h .search) w)
+  grids-judged : (w : Fields) → let h = head-of file 3 9 16 in judged file (and-then f-01 (and-then f-02 (and-then f-03 w))) ≡ requested h (grids-in (h .search) w)
   unfolding judged grids-in
   grids-judged cut = refl
   grids-judged (whole grids) =

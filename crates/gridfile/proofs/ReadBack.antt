@@ -5,7 +5,7 @@ use Prim.Native.Nat.{ℕ, zero, suc, _+_, _*_, _/_, _%_, _<_}
 use native.Mathlib.Nat.{mod-eq-of-lt}
 use native.Mathlib.Omega.{arith}
 use lib.Arith.{digits-div, digits-mod}
-use lib.ListN.{length, take, drop, length-append}
+use lib.ListN.{length, take, drop, length-append, drop-of-length-le}
 use lib.Seq.{drop-append-seam, take-append-seam, drop-at}
 use Rattle.gridfile.specs.Fields.{part, Field, field, Fields, cut, whole, and-then, fields-after, fields-of}
 use Rattle.gridfile.specs.Contents.{bytes-in}
@@ -167,8 +167,4 @@ pub written-as : (file : List ℕ) (fields : List Field) → AllBytes file → f
 unfolding all-bytes
 written-as file fields all e =
     let m = made 0 0 file fields all e in
-    record { raws = m .raws; are = m .are ∙ ap (λ (c : List ℕ). c ++ all-bytes (m .raws)) (nothing (m .content) (m .long)); stand = m .stand; short = m .short }
-  where
-    nothing : (l : List ℕ) → length l ≡ 0 → l ≡ []
-    nothing [] e = refl
-    nothing (b ∷ l) e = absurd (omega arith)
+    record { raws = m .raws; are = m .are ∙ ap (λ (c : List ℕ). c ++ all-bytes (m .raws)) (drop-of-length-le (m .content) {i = 0} (omega arith)); stand = m .stand; short = m .short }

@@ -1,9 +1,9 @@
 -- `main` is safe and ends: what is written is within the output. Assumes nothing.
-use mathlib.Core.Path.{_≡_}
+use mathlib.Core.Path.{_≡_, sym}
 use Prim.Native.Nat.{suc}
 use borrow.Author.Needs.{needs}
 use lib.ListN.{length}
-use Rattle.answer.proofs.Lengths.{prefix-long}
+use lib.Seq.{length-take-le}
 use Rattle.answer.proofs.Reading.{longest-file}
 use Rattle.haul.proofs.main.Statement.{statement}
 use Rattle.haul.proofs.main.Tie as tie
@@ -35,7 +35,7 @@ array-share-prefix-output : tie.Need-array-share-prefix-output
 array-share-prefix-output c = search needs
 
 slice-aggregate-write-all : tie.Need-slice-aggregate-write-all
-slice-aggregate-write-all c = prefix-long _ _ (array-share-prefix-output (c .before))
+slice-aggregate-write-all c = sym (length-take-le _ _ (array-share-prefix-output (c .before)))
 
 write-all-requires : tie.Need-write-all-requires
 write-all-requires c κs = search needs

@@ -1,9 +1,10 @@
 -- `grids::answer_request` meets its contract: the arrays hold every grid of a request, and what is cut off their fronts are the file's grids. Assumes nothing.
+use mathlib.Core.Path.{sym}
 use native.Mathlib.Omega.{arith}
 use borrow.Author.Needs.{needs}
 use denote.Ref.{now}
+use lib.Seq.{length-take-le}
 use Rattle.gridfile.proofs.Requests.{Usable, usable}
-use Rattle.answer.proofs.Lengths.{prefix-long}
 use Rattle.answer.proofs.Fetching.{fetched-bytes, fetched-floats}
 use Rattle.answer.proofs.Sending.{on-grids}
 use Rattle.answer.proofs.grids.answer_request.Statement.{statement}
@@ -41,25 +42,25 @@ array-share-prefix-targets : tie.Need-array-share-prefix-targets
 array-share-prefix-targets c = let small = known (c .before .before .before .before .before .before .before .before .before .before .before .before .before .before .before .before .before .before .before .before .before) .targets .small in omega arith
 
 slice-aggregate-search : tie.Need-slice-aggregate-search
-slice-aggregate-search c = prefix-long _ _ (array-share-prefix-targets (c .before))
+slice-aggregate-search c = sym (length-take-le _ _ (array-share-prefix-targets (c .before)))
 
 array-share-prefix-obstacles : tie.Need-array-share-prefix-obstacles
 array-share-prefix-obstacles c = let small = known (c .before .before .before .before .before .before .before .before .before .before .before .before .before .before .before .before .before .before .before .before .before .before) .obstacles .small in omega arith
 
 slice-aggregate-search-2 : tie.Need-slice-aggregate-search-2
-slice-aggregate-search-2 c = prefix-long _ _ (array-share-prefix-obstacles (c .before))
+slice-aggregate-search-2 c = sym (length-take-le _ _ (array-share-prefix-obstacles (c .before)))
 
 array-share-prefix-times : tie.Need-array-share-prefix-times
 array-share-prefix-times c = let small = known (c .before .before .before .before .before .before .before .before .before .before .before .before .before .before .before .before .before .before .before .before .before .before .before) .times .small in omega arith
 
 slice-aggregate-search-3 : tie.Need-slice-aggregate-search-3
-slice-aggregate-search-3 c = prefix-long _ _ (array-share-prefix-times (c .before))
+slice-aggregate-search-3 c = sym (length-take-le _ _ (array-share-prefix-times (c .before)))
 
 array-share-prefix-values : tie.Need-array-share-prefix-values
 array-share-prefix-values c = let small = known (c .before .before .before .before .before .before .before .before .before .before .before .before .before .before .before .before .before .before .before .before .before .before .before .before) .values .small in omega arith
 
 slice-aggregate-search-4 : tie.Need-slice-aggregate-search-4
-slice-aggregate-search-4 c = prefix-long _ _ (array-share-prefix-values (c .before))
+slice-aggregate-search-4 c = sym (length-take-le _ _ (array-share-prefix-values (c .before)))
 
 search-requires : tie.Need-search-requires
 search-requires c κs = let start = c .before .before .before .before .before .before .before .before .before .before .before .before .before .before .before .before .before .before .before .before .before .before .before .before .before .before in let u = known start in (record { sides = record { rows-natural = u .rows-natural; cols-natural = u .cols-natural }; few = u .few }, start .pre .1)
