@@ -2,9 +2,8 @@
 //
 // The crate promises that a size is judged by the bounds (`in_bounds`, `same_size`, `cell_count`), that
 // a cell's neighbours are those that the table of offsets leads to inside the grid, in its order
-// (`neighbours_of`, and `near`, which finds the same list faster; `neighbour_at` is the one at any single
-// step from a cell's row and column, which `place_of` tells), and that the ring serves cells in the order
-// in which they came (`push`, `take`).
+// (`neighbours_of`; `neighbour_at` is the one at any single step from a cell's row and column, which
+// `place_of` tells), and that the ring serves cells in the order in which they came (`push`, `take`).
 // Its laws, for the crates above, are in proofs/: that a neighbour is a cell of the grid, and what the
 // ring's functions do to the list of the waiting cells.
 mod neighbours;
@@ -15,7 +14,6 @@ pub use neighbours::Neighbour;
 pub use neighbours::Neighbours;
 pub use neighbours::OFFSETS;
 pub use neighbours::Place;
-pub use neighbours::near;
 pub use neighbours::neighbour_at;
 pub use neighbours::neighbours_of;
 pub use neighbours::place_of;

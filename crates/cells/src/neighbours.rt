@@ -106,8 +106,8 @@ fn store_neighbour(
     }
 }
 
-// The neighbours of a cell.
-pub fn neighbours_of(size: Size, cell: u32) -> Neighbours
+// The neighbours of any cell, each offset of the table tried.
+fn neighbours_by_table(size: Size, cell: u32) -> Neighbours
     requires { ⌜ CellOf size cell ⌝ }
     ensures { λ r. ⌜ Lists size cell r ⌝ }
 {
@@ -171,13 +171,13 @@ fn interior_neighbours(size: Size, cell: u32) -> Neighbours
     }
 }
 
-// The neighbours of a cell, the same list as `neighbours_of` gives, found faster where the cell is at no edge.
-pub fn near(size: Size, cell: u32) -> Neighbours
+// The neighbours of a cell, found faster where it is at no edge.
+pub fn neighbours_of(size: Size, cell: u32) -> Neighbours
     requires { ⌜ CellOf size cell ⌝ }
     ensures { λ r. ⌜ Lists size cell r ⌝ }
 {
     if is_interior(size, cell) {
         return interior_neighbours(size, cell);
     }
-    neighbours_of(size, cell)
+    neighbours_by_table(size, cell)
 }

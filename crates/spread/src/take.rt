@@ -7,7 +7,7 @@ use crate::search::Search;
 use crate::waiting::take_first;
 use cells::Ring;
 use cells::is_empty;
-use cells::near;
+use cells::neighbours_of;
 ghost use Rattle.spread.specs.Steps.{terrain};
 ghost use Rattle.spread.specs.Buffers.{buffers};
 ghost use Rattle.spread.specs.Loop.{CanLeave, LeftCell, Taking, TookCell, TakingSome, TookUpTo};
@@ -61,7 +61,7 @@ fn take_one(
     let rest = taken.ring;
     let rule = search.rule;
     let left = leave(rule, distances, carried, cell);
-    let around = near(search.size, cell);
+    let around = neighbours_of(search.size, cell);
     let waiting = scan_by_rule(
         search,
         obstacles,

@@ -10,11 +10,11 @@ take-first-requires c κs = some-wait (c .before .before .before .before .before
 leave-requires : tie.Need-leave-requires
 leave-requires c κs = can-leave (c .before .before .before .before .before .before .before .before .before .before .before .before .before .before .pre) (c .before .before .before .before .before .take-first .ensures)
 
-near-requires : tie.Need-near-requires
-near-requires c κs = search needs
+neighbours-of-requires : tie.Need-neighbours-of-requires
+neighbours-of-requires c κs = search needs
 
 scan-by-rule-requires : tie.Need-scan-by-rule-requires
-scan-by-rule-requires c κs = scans (c .before .before .before .before .before .before .before .before .before .before .before .before .before .before .before .before .before .before .before .before .before .before .pre) (c .before .before .before .before .before .before .before .before .before .before .before .before .before .take-first .ensures) (c .before .before .before .before .before .before .before .leave .ensures) (c .before .before .before .before .before .before .near .ensures)
+scan-by-rule-requires c κs = scans (c .before .before .before .before .before .before .before .before .before .before .before .before .before .before .before .before .before .before .before .before .before .before .pre) (c .before .before .before .before .before .before .before .before .before .before .before .before .before .take-first .ensures) (c .before .before .before .before .before .before .before .leave .ensures) (c .before .before .before .before .before .before .neighbours-of .ensures)
 
 same-length : tie.Need-same-length
 same-length c = search needs
@@ -29,7 +29,7 @@ same-length-4 : tie.Need-same-length-4
 same-length-4 c = search needs
 
 returns : tie.Need-returns
-returns c = took-cell (c .before .before .before .before .before .before .before .before .before .before .before .before .before .before .before .before .before .before .before .before .before .before .before .before .before .before .before .before .before .before .before .pre) (c .before .before .before .before .before .before .before .before .before .before .before .before .before .before .before .before .before .before .before .before .before .before .take-first .ensures) (c .before .before .before .before .before .before .before .before .before .before .before .before .before .before .before .before .leave .ensures) (c .before .before .before .before .before .before .before .before .before .before .before .before .before .before .before .near .ensures) (c .before .before .before .before .before .before .before .before .scan-by-rule .ensures)
+returns c = took-cell (c .before .before .before .before .before .before .before .before .before .before .before .before .before .before .before .before .before .before .before .before .before .before .before .before .before .before .before .before .before .before .before .pre) (c .before .before .before .before .before .before .before .before .before .before .before .before .before .before .before .before .before .before .before .before .before .before .take-first .ensures) (c .before .before .before .before .before .before .before .before .before .before .before .before .before .before .before .before .leave .ensures) (c .before .before .before .before .before .before .before .before .before .before .before .before .before .before .before .neighbours-of .ensures) (c .before .before .before .before .before .before .before .before .scan-by-rule .ensures)
 
 pub take-one-spec : {M : Type 1} → statement M
 take-one-spec =
@@ -37,7 +37,7 @@ take-one-spec =
     (tie.spec
     take-first-requires
     leave-requires
-    near-requires
+    neighbours-of-requires
     scan-by-rule-requires
     same-length
     same-length-2
