@@ -12,7 +12,8 @@
  * overlap each other.
  *
  * Steps. A machine goes from a cell to its eight neighbours: a straight step is 1 long, a diagonal one the float
- * nearest the root of 2. A target is where a way may end: a landing.
+ * nearest the root of 2. A way is counted from a target, a landing, outward: of two cells the one that is entered is
+ * the one farther from the target.
  *
  * What is left. Work buffers may hold anything before a call. After an accepted call and after HAUL_OVER_BUDGET every
  * work buffer is all zero; after HAUL_OVER_BUDGET the answer is NaN in every cell. Any other refusal leaves the answer

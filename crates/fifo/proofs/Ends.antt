@@ -1,4 +1,4 @@
--- The search ends within the square of the number of cells that may be entered.
+-- The search ends within the square of the number of cells that may be entered or started from.
 use mathlib.Core.Bool.{true, false}
 use mathlib.Core.List.{List, [], _∷_, _++_, append-assoc}
 use mathlib.Core.Logic.{_⊎_, inl, inr, ⊎-elim}

@@ -1,4 +1,4 @@
--- What decides a call whose promise is made of equations. Here, because every crate that has functions above the numbers uses this one. Assumes nothing.
+-- What decides a call whose promise is made of equations. Assumes nothing.
 use mathlib.Core.Path.{_≡_, sym, _∙_}
 
 -- The general lemma: where a promise says that the result, or what a lent slice holds afterwards, is `told`, which the inputs give, two outcomes that

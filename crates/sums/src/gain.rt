@@ -74,6 +74,7 @@ pub fn run_gaining(
             queue,
             waiting,
         );
+        // Field by field: both at once would wait for the two stores before.
         let rest = took.ring;
         waiting = Ring {
             head: rest.head,

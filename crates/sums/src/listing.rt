@@ -47,6 +47,7 @@ pub fn run_listing(
             queue,
             waiting,
         );
+        // Field by field: both at once would wait for the two stores before.
         let rest = took.ring;
         waiting = Ring {
             head: rest.head,
