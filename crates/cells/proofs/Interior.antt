@@ -8,11 +8,11 @@ use native.Mathlib.Numerals.{add-one}
 use native.Mathlib.Omega.{arith}
 use borrow.Author.Tests.{ltb-true}
 use lib.Dec.{ltb}
+use lib.Ieee.Bits.{is-true}
 use lib.IntN.{ℤ, pos, negsuc, _+ℤ_}
 use lib.Signed.{mag, ltZ}
 use mir.Syntax.{w32}
 use mir.Val.{SFits}
-use Rattle.fifo.proofs.Lists.{is-true}
 use Rattle.rules.specs.declared.Size.{Size}
 use Rattle.rules.specs.Sizes.{count}
 use Rattle.rules.specs.Cells.{offsets, index, row-of, col-of, within, neighbour, neighbours}

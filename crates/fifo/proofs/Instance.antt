@@ -8,13 +8,14 @@ use native.Mathlib.Nat.{mul-le-mul}
 use native.Mathlib.Omega.{arith}
 use borrow.Author.Tests.{ltb-true, ltb-false, le-ltb}
 use lib.Dec.{T, eqb, ltb, ltb→lt, lt→ltb}
+use lib.Ieee.Bits.{is-true}
 use lib.ListN.{length, getD}
 use mir.Facts.{and-yes}
 use Rattle.fifo.specs.Machine.{label, finish, takes-of}
 use Rattle.fifo.specs.Walk.{In, Walk}
 use Rattle.fifo.specs.Laws.{Laws}
 use Rattle.fifo.proofs.Nets.{net-of, row-steps, grid-steps}
-use Rattle.fifo.proofs.Lists.{is-true, in-map}
+use Rattle.fifo.proofs.Lists.{in-map}
 use Rattle.fifo.proofs.Ends.{ends-within-square}
 use Rattle.fifo.proofs.LeastSums.{least-sums}
 

@@ -5,11 +5,12 @@ use mathlib.Core.Logic.{_⊎_, inl, inr, ⊎-elim}
 use mathlib.Core.Path.{_≡_, refl, _∙_, subst}
 use Prim.Native.Nat.{ℕ, _<_}
 use native.Mathlib.Omega.{arith}
+use lib.Ieee.Bits.{is-true}
 use lib.ListN.{length}
 use Rattle.fifo.specs.Machine.{Net, State, initial, label, store, relax, take, run}
 use Rattle.fifo.specs.Walk.{In, Starting, Walk, here, on}
 use Rattle.fifo.specs.Laws.{Enterable, Step, Laws, Sound, Relaxed, Accounted}
-use Rattle.fifo.proofs.Lists.{is-true, true-or-false, same-or-not, in-or-not, in-joined, joiner-in, joined-cases, no-dup-joined}
+use Rattle.fifo.proofs.Lists.{true-or-false, same-or-not, in-or-not, in-joined, joiner-in, joined-cases, no-dup-joined}
 use Rattle.fifo.proofs.Ranges.{in-passing, no-dup-passing}
 use Rattle.fifo.proofs.Induction.{awaiting, label-stored, label-unstored, after-store, waiting-store, entered-store, relax-cases, Kept, take-keeps, take-reaches, run-keeps}
 use Rattle.fifo.proofs.Order.{not-below-itself, good-above, below-trans}

@@ -26,10 +26,6 @@ tested false = inr refl
 pub holds : {b : Bool} → b ≡ true → T b
 holds e = subst T (sym e) tt
 
-pub is-true : (b : Bool) → T b → b ≡ true
-is-true true t = refl
-is-true false t = absurd t
-
 pub true-or-false : {b : Bool} → b ≡ true → b ≡ false → ⊥
 true-or-false p q = subst T (sym p ∙ q) tt
 

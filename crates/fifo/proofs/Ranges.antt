@@ -7,10 +7,11 @@ use Prim.Native.Nat.{ℕ, zero, suc, _+_, _<_, _≤_, suc-le-suc}
 use native.Mathlib.Nat.{zero-add, add-zero, add-suc, suc-add}
 use native.Mathlib.Omega.{arith}
 use lib.Dec.{T}
+use lib.Ieee.Bits.{is-true}
 use lib.ListN.{length, getD, set}
 use Rattle.fifo.specs.Machine.{among, table, passing}
 use Rattle.fifo.specs.Walk.{In, NoDup}
-use Rattle.fifo.proofs.Lists.{by-test, holds, is-true, true-or-false, same-or-not, in-among, no-dup-no-longer}
+use Rattle.fifo.proofs.Lists.{by-test, holds, true-or-false, same-or-not, in-among, no-dup-no-longer}
 
 -- ---- the values of a function
 

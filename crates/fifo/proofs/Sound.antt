@@ -6,11 +6,12 @@ use mathlib.Core.Path.{_≡_, refl, sym, _∙_, subst}
 use Prim.Native.Nat.{ℕ, _<_, _≤_}
 use native.Mathlib.Nat.{zero-add}
 use native.Mathlib.Omega.{arith}
+use lib.Ieee.Bits.{is-true}
 use lib.ListN.{length, getD}
 use Rattle.fifo.specs.Machine.{Net, State, table, passing, initial, label, store, take, run}
 use Rattle.fifo.specs.Walk.{In, NoDup, Starting}
 use Rattle.fifo.specs.Laws.{room, Enterable, Step, Laws, Held, Sound}
-use Rattle.fifo.proofs.Lists.{tested, holds, is-true, true-or-false, joined-cases, no-dup-joined}
+use Rattle.fifo.proofs.Lists.{tested, holds, true-or-false, joined-cases, no-dup-joined}
 use Rattle.fifo.proofs.Ranges.{length-table, getD-table, passing-in, no-dup-passing, length-passing}
 use Rattle.fifo.proofs.Induction.{awaiting, after-store, label-unstored, label-awaiting, length-store, waiting-store, Kept, take-keeps, run-keeps}
 use Rattle.fifo.proofs.Order.{not-below-lower}

@@ -5,14 +5,14 @@ use mathlib.Core.Path.{_≡_, refl, ap, _∙_, subst}
 use Prim.Native.Nat.{ℕ, suc, _<_}
 use lib.Dec.{T}
 use lib.Ieee.{Float, nan, binary32, add, lt, fits, isNan}
-use lib.Ieee.Bits.{is-false}
+use lib.Ieee.Bits.{is-true, is-false}
 use lib.Ieee.Fits.{and-l}
 use mir.Facts.{T-not-not}
 use Rattle.binary32.specs.Numbers.{plus-zero}
 use Rattle.fifo.specs.Machine.{Net, label, finish}
 use Rattle.fifo.specs.Walk.{In, Walk, here, on}
 use Rattle.fifo.specs.Laws.{Laws, LeastSums}
-use Rattle.fifo.proofs.Lists.{in-or-not, is-true, tested, holds}
+use Rattle.fifo.proofs.Lists.{in-or-not, tested, holds}
 use Rattle.fifo.proofs.Labels.{walk-starts}
 use Rattle.fifo.proofs.LeastSums.{least-sums}
 use Rattle.fifo.proofs.Search.{closed-first}
