@@ -1,18 +1,19 @@
 -- The order of first entry: the entered cells are those that were taken and then those that wait, each where it comes first. These hold of every net.
 use mathlib.Core.Bool.{false}
-use mathlib.Core.List.{List, [], _∷_, _++_, map, foldl, foldl-append, append-nil, append-assoc}
+use mathlib.Core.List.{List, [], _∷_, _++_, map, append-nil, append-assoc}
 use mathlib.Core.Logic.{inl, inr, ⊎-elim}
 use mathlib.Core.Path.{_≡_, refl, sym, ap, _∙_, subst}
 use Prim.Native.Nat.{ℕ, suc}
-use Rattle.fifo.specs.Machine.{Net, State, among, joined, passing, initial, label, take, run, trace}
+use Rattle.fifo.specs.Machine.{Net, State, among, joined, once, passing, initial, label, take, run, trace}
 use Rattle.fifo.specs.Walk.{In, NoDup}
 use Rattle.fifo.proofs.Lists.{tested, not-among, among-in, in-among, in-snoc, in-back, joined-waiting, joined-new, in-joined, joiner-in}
 use Rattle.fifo.proofs.Ranges.{no-dup-passing}
 use Rattle.fifo.proofs.Induction.{waiting-store, entered-store, Kept, take-keeps, run-zero, run-stopped, run-head, trace-zero, trace-stopped, trace-head, by-takes, run-keeps}
 
--- A list's cells join those that were found, in order: each once, where it comes first.
-abbrev pub once : List ℕ → List ℕ → List ℕ
-once found cells = foldl (λ found c. joined c found) found cells
+-- The last cell of a list joins last.
+pub once-last : (found cells : List ℕ) (c : ℕ) → once found (cells ++ c ∷ []) ≡ joined c (once found cells)
+once-last found [] c = refl
+once-last found (d ∷ cells) c = once-last (joined d found) cells c
 
 in-once-found : (c : ℕ) (found cells : List ℕ) → In c found → In c (once found cells)
 in-once-found c found [] i = i
@@ -46,7 +47,7 @@ once-joins past v ws =
     ∙ sym (joined-waiting v (once [] (past ++ ws)) (in-among v (once [] (past ++ ws)) (in-once v [] (past ++ ws) (in-back v past ws (among-in v ws waits))))))
     (λ new. ap (λ l. once [] (past ++ l)) (joined-new v ws new)
     ∙ ap (once []) (sym (append-assoc past ws (v ∷ [])))
-    ∙ foldl-append (λ found c. joined c found) [] (past ++ ws) (v ∷ []))
+    ∙ once-last [] (past ++ ws) v)
     (tested (among v ws))
 
 module _ {L : Type 0} (net : Net L) where

@@ -1,6 +1,6 @@
 -- A first-in first-out queue that corrects labels, over any type of label. Definitions only, and all of them compute.
 use mathlib.Core.Bool.{Bool, false, cond, _||_}
-use mathlib.Core.List.{List, [], _∷_, _++_}
+use mathlib.Core.List.{List, [], _∷_, _++_, foldl}
 use Prim.Native.Nat.{ℕ, zero, suc, _*_}
 use lib.Dec.{eqb}
 use lib.ListN.{getD, set}
@@ -34,6 +34,10 @@ among v (w ∷ ws) = eqb v w || among v ws
 -- The cells with v at their end, unless it is already among them.
 unfoldable pub joined : ℕ → List ℕ → List ℕ
 joined v ws = cond (among v ws) ws (ws ++ v ∷ [])
+
+-- A list's cells join those that were found, in order: each once, where it comes first.
+abbrev pub once : List ℕ → List ℕ → List ℕ
+once found cells = foldl (λ found c. joined c found) found cells
 
 -- The values of f at the k numbers from i on.
 unfoldable pub table : {L : Type 0} → (ℕ → L) → ℕ → ℕ → List L

@@ -1,11 +1,12 @@
 -- The cells that a run lists: each at its first take. Assumes nothing.
 use mathlib.Core.Bool.{Bool, true, false, not}
-use mathlib.Core.List.{List, [], _∷_, _++_, map, map-append, foldl, foldl-append}
+use mathlib.Core.List.{List, [], _∷_, _++_, map, map-append}
 use mathlib.Core.Path.{_≡_, sym, ap, _∙_, subst}
 use Prim.Native.Nat.{ℕ, _+_}
 use lib.ListN.{length}
 use Rattle.cells.specs.Ring.{SaysEmpty}
-use Rattle.fifo.specs.Machine.{Net, joined}
+use Rattle.fifo.specs.Machine.{Net, joined, once}
+use Rattle.fifo.proofs.Entries.{once-last}
 use Rattle.rules.specs.Sizes.{count}
 use Rattle.rules.specs.Values.{Carried}
 use Rattle.spread.specs.declared.search.Search.{Search}
@@ -60,8 +61,8 @@ module _ {search : Search} {ground : Terrain} {before : Buffers} where
           one-more : (net : Net Carried) → taken-at net (r + 1) ≡ taken-at net r ++ (took .cell, took .distance) ∷ [] → each-once (taken-at net (r + 1)) ≡ joined (took .cell) (each-once (taken-at net r))
           one-more net more =
               ap each-once more
-              ∙ ap (foldl (λ found c. joined c found) []) (map-append (λ one. one .0) (taken-at net r) ((took .cell, took .distance) ∷ []))
-              ∙ foldl-append (λ found c. joined c found) [] (map (λ one. one .0) (taken-at net r)) (took .cell ∷ [])
+              ∙ ap (once []) (map-append (λ one. one .0) (taken-at net r) ((took .cell, took .distance) ∷ []))
+              ∙ once-last [] (map (λ one. one .0) (taken-at net r)) (took .cell)
 
       pub listed-all :
           not says ≡ false

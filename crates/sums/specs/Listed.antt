@@ -1,10 +1,10 @@
 -- What the run from one mask cell asks and promises. Definitions only.
-use mathlib.Core.List.{List, [], map, foldl}
+use mathlib.Core.List.{List, [], map}
 use mathlib.Core.Path.{_≡_}
 use Prim.Native.Nat.{ℕ}
 use lib.Ieee.{Float}
 use lib.ListN.{length}
-use Rattle.fifo.specs.Machine.{Net, joined}
+use Rattle.fifo.specs.Machine.{Net, once}
 use Rattle.rules.specs.Sizes.{count}
 use Rattle.rules.specs.Values.{Carried}
 use Rattle.spread.specs.declared.search.Search.{Search}
@@ -16,7 +16,7 @@ use Rattle.sums.specs.declared.listing.Reached.{Reached}
 
 -- The taken cells, each once, in order of their first take.
 abbrev pub each-once : List (ℕ × Float) → List ℕ
-each-once taken = foldl (λ found c. joined c found) [] (map (λ one. one .0) taken)
+each-once taken = once [] (map (λ one. one .0) taken)
 
 -- The run is to begin: nothing is listed.
 pub record Lists (search : Search) (ground : Terrain) (listed met : List ℕ) (b : Buffers) : Type 0 where
