@@ -9,7 +9,7 @@ use native.Mathlib.Omega.{arith}
 use lib.ListN.{length, length-append}
 use Rattle.fifo.specs.Machine.{Net, State, passing, initial, label, take, run, takes, finish, takes-of}
 use Rattle.fifo.specs.Walk.{In}
-use Rattle.fifo.specs.Laws.{room, Enterable, Laws, Sound}
+use Rattle.fifo.specs.Laws.{room, EndsWithinSquare, Enterable, Laws, Sound}
 use Rattle.fifo.specs.Simulation.{Within}
 use Rattle.fifo.proofs.Lists.{tested, true-or-false, same-or-not, in-back, joined-cases, without, length-without, in-without, no-dup-no-longer, empty-or-not}
 use Rattle.fifo.proofs.Ranges.{in-passing}
@@ -224,10 +224,10 @@ module _ {L : Type 0} {net : Net L} (laws : Laws net) where
   laws-within k = le-trans (takes-within-square (initial net) (sound-initial laws) k) room-squared
 
   -- The search ends: nothing waits, and it has taken at most the square of the number of cells that may be entered.
-  pub ends-within-square : (finish net .waiting ≡ []) × (takes-of net ≤ room net * room net) × (room net ≤ net .cells)
+  pub ends-within-square : EndsWithinSquare net
   unfolding finish takes-of
-  ends-within-square = (
-    stops-within-square (initial net) (sound-initial laws) (net .cells * net .cells) room-squared,
-    takes-within-square (initial net) (sound-initial laws) (net .cells * net .cells),
-    room-at-most-cells net,
-  )
+  ends-within-square = record {
+    nothing-waits = stops-within-square (initial net) (sound-initial laws) (net .cells * net .cells) room-squared;
+    takes-within-square = takes-within-square (initial net) (sound-initial laws) (net .cells * net .cells);
+    room-within-cells = room-at-most-cells net;
+  }

@@ -70,7 +70,7 @@ module _ (cap : ℕ) (steps : List (List (ℕ × ℕ))) (inside-all : T (all-ins
   pub net-ends : (finish (net-of cap steps) .waiting ≡ []) × (takes-of (net-of cap steps) ≤ length steps * length steps)
   net-ends =
       let ends = ends-within-square net-laws in
-      (ends .0, omega (arith, ends .1, mul-le-mul (ends .2) (ends .2)))
+      (ends .nothing-waits, omega (arith, ends .takes-within-square, mul-le-mul (ends .room-within-cells) (ends .room-within-cells)))
 
   pub net-least : {from c d : ℕ} → Walk (net-of cap steps) from c d → label (net-of cap steps) (finish (net-of cap steps)) c ≤ d
   net-least {c = c} {d = d} walk = ltb-false d (label (net-of cap steps) (finish (net-of cap steps)) c) ((least-sums net-laws) .no-less walk)

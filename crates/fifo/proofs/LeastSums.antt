@@ -65,7 +65,6 @@ module _ {L : Type 0} {net : Net L} (laws : Laws net) where
       no-less = no-walk-less;
       entered-met = acc .entered-walk;
       rest-first = acc .rest-first;
-      met = λ c. ⊎-elim (λ k. inr (acc .entered-walk c k)) (λ out. inl (acc .rest-first c out)) (in-or-not c (s .entered));
       start-entered = acc .start-entered;
       start-first = acc .start-first;
       below-cap = acc .below-cap;
@@ -81,4 +80,4 @@ module _ {L : Type 0} {net : Net L} (laws : Laws net) where
   pub least-sums : LeastSums laws (finish net)
   unfolding finish
   least-sums =
-      least-sums-from (initial net) (sound-initial laws) (accounted-initial laws) (net .cells * net .cells) ((ends-within-square laws) .0)
+      least-sums-from (initial net) (sound-initial laws) (accounted-initial laws) (net .cells * net .cells) (ends-within-square laws .nothing-waits)

@@ -1,17 +1,23 @@
 -- What the theory asks of a net and of a state that a run begins from, and what it gives. Definitions only.
 use mathlib.Core.Bool.{true, false}
-use mathlib.Core.List.{List}
+use mathlib.Core.List.{List, []}
 use mathlib.Core.Logic.{_⊎_}
 use mathlib.Core.Path.{_≡_}
-use Prim.Native.Nat.{ℕ, _<_}
+use Prim.Native.Nat.{ℕ, _*_, _<_, _≤_}
 use lib.Dec.{T}
 use lib.ListN.{length}
-use Rattle.fifo.specs.Machine.{Net, State, passing, label}
+use Rattle.fifo.specs.Machine.{Net, State, passing, label, finish, takes-of}
 use Rattle.fifo.specs.Walk.{In, NoDup, Starting, Walk}
 
 -- The number of cells that may be entered or started from.
 unfoldable pub room : {L : Type 0} → Net L → ℕ
 room net = length (passing (net .enterable) 0 (net .cells))
+
+-- At the end nothing waits, and the takes are at most the square of the number of cells that may be entered or started from.
+pub record EndsWithinSquare {L : Type 0} (net : Net L) : Type 0 where
+  pub nothing-waits : finish net .waiting ≡ []
+  pub takes-within-square : takes-of net ≤ room net * room net
+  pub room-within-cells : room net ≤ net .cells
 
 -- c is a cell of the net that may be entered or started from.
 abbrev pub Enterable : {L : Type 0} → Net L → ℕ → Type 0
@@ -86,7 +92,6 @@ module _ {L : Type 0} {net : Net L} (laws : Laws net) where
     -- the label of an entered cell is that of a walk, any other's is the first one
     pub entered-met : (c : ℕ) → In c (s .entered) → (from : ℕ) × Walk net from c (label net s c)
     pub rest-first : (c : ℕ) → (In c (s .entered) → ⊥) → label net s c ≡ net .first c
-    pub met : (c : ℕ) → (label net s c ≡ net .first c) ⊎ ((from : ℕ) × Walk net from c (label net s c))
     -- the starting cells are entered and keep their first label; any other entered cell is below the cap
     pub start-entered : (c : ℕ) → Starting net c → In c (s .entered)
     pub start-first : (c : ℕ) → Starting net c → label net s c ≡ net .first c

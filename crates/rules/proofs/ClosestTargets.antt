@@ -14,6 +14,7 @@ use Rattle.fifo.specs.Walk.{In, Walk, here, on}
 use Rattle.fifo.specs.Laws.{Laws, LeastSums}
 use Rattle.fifo.proofs.Lists.{in-or-not, tested, holds}
 use Rattle.fifo.proofs.Labels.{walk-starts}
+use Rattle.fifo.proofs.Ends.{ends-within-square}
 use Rattle.fifo.proofs.LeastSums.{least-sums}
 use Rattle.fifo.proofs.Search.{closed-first}
 use Rattle.rules.specs.Numbers.{whole}
@@ -27,7 +28,6 @@ use Rattle.rules.proofs.AddedCosts.{AddsCosts, laws-of-costs}
 use Rattle.rules.proofs.PathWalks.{StepsAllowed, walk-path, no-path-less, steps-of-moves, permitted-by, allowed-by}
 use Rattle.rules.proofs.Inputs.{AcceptedTimes}
 use Rattle.rules.proofs.Nets.{closest-costs, closest-by-time-costs}
-use Rattle.rules.proofs.Squares.{laws-end}
 
 -- A search in which a value goes along: its steps go to the neighbours that pass a test, add a cost and leave the value; a starting cell has its own value.
 record CarriesAlong (net : Net Carried) (size : Size) (test : ℕ → Bool) (cost : ℕ → ℕ → Float → Float) (value : ℕ → Float) (cap : Float) : Type 0 where
@@ -67,7 +67,7 @@ module _
     holds-closest marked marked-closed others-capped = record {
       marked-holds-nan = λ c inside m. let (closed, holds-nan) = marked-closed c m in closed-first laws c closed ∙ holds-nan;
       other-holds-closest = λ c inside unmarked. ⊎-elim (λ entered. inl (reached c entered)) (λ out. inr (unreached c inside unmarked out)) (in-or-not c (finish net .entered));
-      takes-within-square = laws-end laws .takes-within-square;
+      takes-within-square = ends-within-square laws .takes-within-square;
     }
       where
         laws : Laws net

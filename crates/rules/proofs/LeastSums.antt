@@ -15,6 +15,7 @@ use Rattle.fifo.specs.Walk.{Walk}
 use Rattle.fifo.specs.Laws.{Laws, LeastSums}
 use Rattle.fifo.proofs.Lists.{in-or-not}
 use Rattle.fifo.proofs.Labels.{walk-starts}
+use Rattle.fifo.proofs.Ends.{ends-within-square}
 use Rattle.fifo.proofs.LeastSums.{least-sums}
 use Rattle.fifo.proofs.Search.{closed-first}
 use Rattle.rules.specs.declared.BarrierDiagonals.{BarrierDiagonals}
@@ -28,7 +29,6 @@ use Rattle.rules.proofs.AddedCosts.{AddsCosts, laws-of-costs}
 use Rattle.rules.proofs.PathWalks.{StepsAllowed, walk-path, no-path-less, from-any, steps-of-moves, permitted-by, allowed-by}
 use Rattle.rules.proofs.Inputs.{AcceptedTimes}
 use Rattle.rules.proofs.Nets.{plain-costs, obstacles-costs, travel-costs}
-use Rattle.rules.proofs.Squares.{laws-end}
 
 module _ {net : Net Float} {Allowed : ℕ → ℕ → Float → Type 0} {cap : Float} (costs : AddsCosts (λ d. d) net cap) (steps : StepsAllowed (λ d. d) net Allowed) where
   -- A cell that does not start holds the least sum of its paths, or the cap that it had at first.
@@ -62,7 +62,7 @@ module _ {net : Net Float} {Allowed : ℕ → ℕ → Float → Type 0} {cap : F
     target-holds-0 = λ c inside starts. least-sums laws .start-first c (inside, starts) ∙ costs .start-zero c (inside, starts);
     marked-holds-nan = λ c inside m. let (closed, holds-nan) = marked-closed c m in closed-first laws c closed ∙ holds-nan;
     other-holds-least = λ c inside rests unmarked. let out = is-false (net .start c) rests in least-or-cap c out (others-capped c inside out unmarked);
-    takes-within-square = laws-end laws .takes-within-square;
+    takes-within-square = ends-within-square laws .takes-within-square;
   }
     where
       laws : Laws net

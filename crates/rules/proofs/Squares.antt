@@ -3,13 +3,13 @@ use mathlib.Core.Bool.{false, _&&_}
 use mathlib.Core.List.{[]}
 use mathlib.Core.Logic.{inl, ⊎-elim}
 use mathlib.Core.Path.{_≡_, refl, subst}
-use Prim.Native.Nat.{ℕ, _*_, _≤_, zero-le}
+use Prim.Native.Nat.{ℕ, _*_, zero-le}
 use lib.Dec.{T, eqb, eqb→eq}
 use lib.Ieee.{Float, binary32, fits, isNan}
 use lib.Ieee.Fits.{and-l, and-r}
 use Rattle.fifo.specs.Machine.{Net, passing, initial, finish, takes-of}
 use Rattle.fifo.specs.Walk.{Starting}
-use Rattle.fifo.specs.Laws.{room, Laws}
+use Rattle.fifo.specs.Laws.{EndsWithinSquare}
 use Rattle.fifo.proofs.Lists.{tested, holds, empty-or-not}
 use Rattle.fifo.proofs.Induction.{run-stopped, takes-stopped}
 use Rattle.fifo.proofs.Sound.{passing-starts, room-at-most-cells}
@@ -21,15 +21,6 @@ use Rattle.rules.specs.Values.{closest, closest-by-time}
 use Rattle.rules.specs.Sums.{from-mask-cell, from-amount}
 use Rattle.rules.proofs.Inputs.{AcceptedTimes, AcceptedBudget}
 use Rattle.rules.proofs.Nets.{plain-laws, obstacles-laws, travel-laws, closest-laws, closest-by-time-laws, mask-cell-laws, amount-laws}
-
--- At the end nothing waits, and the takes are at most the square of the number of cells that may be entered or started from.
-pub record EndsWithinSquare {L : Type 0} (net : Net L) : Type 0 where
-  pub nothing-waits : finish net .waiting ≡ []
-  pub takes-within-square : takes-of net ≤ room net * room net
-  pub room-within-cells : room net ≤ net .cells
-
-pub laws-end : {L : Type 0} {net : Net L} → Laws net → EndsWithinSquare net
-laws-end laws = let (stops, takes, cells) = ends-within-square laws in record { nothing-waits = stops; takes-within-square = takes; room-within-cells = cells }
 
 -- With no starting cell nothing waits at the start, so nothing is taken.
 module _ {L : Type 0} (net : Net L) (none : (c : ℕ) → Starting net c → ⊥) where
@@ -50,26 +41,26 @@ module _ {L : Type 0} (net : Net L) (none : (c : ℕ) → Starting net c → ⊥
   }
 
 pub plain-ends : (targets : Grid ℕ) (cap : Float) → T (fits binary32 cap) → isNan cap ≡ false → EndsWithinSquare (plain targets cap)
-plain-ends targets cap held number = laws-end (plain-laws targets cap held number)
+plain-ends targets cap held number = ends-within-square (plain-laws targets cap held number)
 
 pub obstacles-ends : (targets obstacles : Grid ℕ) (diagonals : BarrierDiagonals) → EndsWithinSquare (with-obstacles targets obstacles diagonals)
-obstacles-ends targets obstacles diagonals = laws-end (obstacles-laws targets obstacles diagonals)
+obstacles-ends targets obstacles diagonals = ends-within-square (obstacles-laws targets obstacles diagonals)
 
 pub travel-ends :
     (targets : Grid ℕ) (times : Grid Float) (cap : Float) → AcceptedTimes times → T (fits binary32 cap) → isNan cap ≡ false
     → EndsWithinSquare (travel targets times cap)
-travel-ends targets times cap times-good held number = laws-end (travel-laws targets times cap times-good held number)
+travel-ends targets times cap times-good held number = ends-within-square (travel-laws targets times cap times-good held number)
 
 pub closest-ends : (targets : Grid ℕ) (values : Grid Float) → EndsWithinSquare (closest targets values)
-closest-ends targets values = laws-end (closest-laws targets values)
+closest-ends targets values = ends-within-square (closest-laws targets values)
 
 pub closest-by-time-ends :
     (targets : Grid ℕ) (times values : Grid Float) (limit : Float) → AcceptedTimes times → T (fits binary32 limit) → isNan limit ≡ false
     → EndsWithinSquare (closest-by-time targets times values limit)
-closest-by-time-ends targets times values limit times-good held number = laws-end (closest-by-time-laws targets times values limit times-good held number)
+closest-by-time-ends targets times values limit times-good held number = ends-within-square (closest-by-time-laws targets times values limit times-good held number)
 
 pub mask-cell-ends : (times : Grid Float) (m : ℕ) → AcceptedTimes times → EndsWithinSquare (from-mask-cell times m)
-mask-cell-ends times m times-good = laws-end (mask-cell-laws times m times-good)
+mask-cell-ends times m times-good = ends-within-square (mask-cell-laws times m times-good)
 
 -- In 7 and 8 a cell whose time is nodata does not start, so that the search from it takes nothing.
 only-with-data : (times : Grid Float) (t c : ℕ) → has-data times t ≡ false → T (eqb c t && has-data times c) → ⊥
@@ -90,5 +81,5 @@ amount-idle times budget t none = none-start-idle (from-amount times budget t) (
 
 pub amount-ends : (times : Grid Float) (budget : Float) (t : ℕ) → AcceptedTimes times → AcceptedBudget budget → EndsWithinSquare (from-amount times budget t)
 amount-ends times budget t times-good budget-good =
-    ⊎-elim (λ has. laws-end (amount-laws times budget t times-good budget-good (holds has)))
+    ⊎-elim (λ has. ends-within-square (amount-laws times budget t times-good budget-good (holds has)))
     (λ none. none-start-end (from-amount times budget t) (amount-none-start times budget t none)) (tested (has-data times t))

@@ -9,12 +9,13 @@ use lib.Dec.{T}
 use lib.ListN.{length}
 use lib.Ieee.{Float}
 use Rattle.fifo.specs.Machine.{Net, passing, takes-of}
+use Rattle.fifo.specs.Laws.{EndsWithinSquare}
 use Rattle.fifo.proofs.Ranges.{length-passing}
 use Rattle.rules.specs.Sizes.{Grid, in-bounds, count}
 use Rattle.rules.specs.Distances.{target}
 use Rattle.rules.specs.Sums.{Run, run-of, total-takes, from-mask-cell, runs-7, from-amount, counts, runs-8}
 use Rattle.rules.proofs.Inputs.{most-cells, cells-at-most, AcceptedTimes, AcceptedBudget}
-use Rattle.rules.proofs.Squares.{EndsWithinSquare, mask-cell-ends, amount-ends}
+use Rattle.rules.proofs.Squares.{mask-cell-ends, amount-ends}
 
 -- The takes over all starts together, whatever they come to.
 abbrev pub summed-takes : ℕ → List Run → ℕ
