@@ -19,7 +19,7 @@ use Rattle.rules.specs.Sizes.{grid, Judged, count}
 use Rattle.rules.specs.Distances.{scaled, target, target-data, plain, free, with-obstacles, both-data, travel, refusals-1, refusals-2, refusals-3, outcome-1, outcome-2, outcome-3}
 use Rattle.rules.specs.Paths.{HoldsLeastSums}
 use Rattle.rules.proofs.Inputs.{AcceptedTimes}
-use Rattle.rules.proofs.Accepted.{accepted-1, accepted-2, accepted-3}
+use Rattle.rules.proofs.Accepted.{accepted-1, accepted-3}
 use Rattle.rules.proofs.Nets.{plain-laws, obstacles-laws, travel-laws}
 use Rattle.rules.proofs.LeastSums.{least-sums-1, least-sums-2, least-sums-3}
 use Rattle.calls.specs.declared.answer.Answer.{Answer}
@@ -53,9 +53,9 @@ unfolding outcome-1 plain room scaled
 demand-3-plain size targets spacing answer marks queue r t held promise said =
     let of = grid size targets in
     let found = accepted-found (refusals-1 of spacing (lengths answer marks queue)) _ _ t promise said in
-    let (bounds, number) = accepted-1 of spacing (lengths answer marks queue) (found .passed) in
+    let number = accepted-1 of spacing (lengths answer marks queue) (found .passed) in
     demanded (plain-laws of (spacing .limit) held number) (times-cell-size spacing) size (target-data of) (λ c. not (target-data of c)) refl refl
-    (least-sums-1 of (spacing .limit) bounds held number) refl found
+    (least-sums-1 of (spacing .limit) held number) refl found
 
 -- A distance without a limit has infinity as its cap.
 pub demand-3-uncapped :
@@ -75,7 +75,7 @@ demand-3-obstacles size targets obstacles-size obstacles spacing diagonals answe
     let avoided = grid obstacles-size obstacles in
     let found = accepted-found (refusals-2 of avoided spacing (lengths answer marks queue)) _ _ t promise said in
     demanded (obstacles-laws of avoided diagonals) (times-cell-size spacing) size (λ c. target of c || free avoided c) (λ c. false) refl refl
-    (least-sums-2 of avoided diagonals (accepted-2 of avoided spacing (lengths answer marks queue) (found .passed))) refl found
+    (least-sums-2 of avoided diagonals) refl found
 
 -- The times of a call are values of binary32, as those of every slice of the code are.
 pub demand-3-travel :
@@ -88,7 +88,7 @@ demand-3-travel size targets times-size times cap answer marks queue r t times-h
     let of = grid size targets in
     let timed = grid times-size times in
     let found = accepted-found (refusals-3 of timed cap (lengths answer marks queue)) _ _ t promise said in
-    let (bounds, number, none-negative) = accepted-3 of timed cap (lengths answer marks queue) (found .passed) in
+    let (number, none-negative) = accepted-3 of timed cap (lengths answer marks queue) (found .passed) in
     let times-good : AcceptedTimes timed = record { held = times-held; none-negative = none-negative } in
     demanded (travel-laws of timed cap times-good held number) (λ d. d) size (both-data of timed) (λ c. not (both-data of timed c)) refl refl
     (least-sums-3 of timed cap times-good held number) (sym (map-id _)) found

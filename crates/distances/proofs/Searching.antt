@@ -98,7 +98,7 @@ module _ (size : Size) (targets : List ℕ) (spacing : Spacing) where
   unfolding refusals-1 plain
   plain-searches answer marks queue held pass =
       let known = shaped _ _ _ _ _ (record { is = sym pass }) in
-      let (bounds, number) = accepted-1 (grid size targets) spacing (lent (length answer ∷ length marks ∷ []) (length queue)) pass in
+      let number = accepted-1 (grid size targets) spacing (lent (length answer ∷ length marks ∷ []) (length queue)) pass in
       can-search {search = plain-search} refl (known .within) (known .long .0) (λ reads. known .long .0) (λ reads. absurd (false≢true reads)) (known .long .1 .0) (known .long .1 .1 .0) (known .queue-long)
       (laws-within (plain-laws (grid size targets) (spacing .limit) held number))
 
@@ -151,7 +151,7 @@ module _ (size : Size) (targets : List ℕ) (times-size : Size) (times : List Fl
   unfolding refusals-3 travel
   travel-searches answer marks queue times-held held pass =
       let known = shaped _ _ _ _ _ (record { is = sym pass }) in
-      let (bounds, number, none-negative) = accepted-3 (grid size targets) (grid times-size times) cap (lent (length answer ∷ length marks ∷ []) (length queue)) pass in
+      let (number, none-negative) = accepted-3 (grid size targets) (grid times-size times) cap (lent (length answer ∷ length marks ∷ []) (length queue)) pass in
       can-search {search = travel-search} refl (known .within) (known .long .0) (λ reads. absurd (false≢true reads)) (λ reads. known .long .1 .0)
       (known .long .1 .1 .0) (known .long .1 .1 .1 .0) (known .queue-long)
       (laws-within (travel-laws (grid size targets) (grid size times) cap (record { held = times-held; none-negative = none-negative }) held number))

@@ -9,7 +9,7 @@ use lib.Ieee.{Float, isNan, le}
 use Rattle.binary32.specs.Numbers.{plus-zero}
 use Rattle.fifo.proofs.Lists.{holds}
 use Rattle.rules.specs.Sizes.{Size, Grid, Spacing, Lent, Refusal, passes, in-bounds, out-of-bounds, any, first-that-holds, shape, below-zero}
-use Rattle.rules.specs.Distances.{refusals-1, refusals-2, refusals-3}
+use Rattle.rules.specs.Distances.{refusals-1, refusals-3}
 use Rattle.rules.specs.Values.{refusals-5, refusals-6}
 use Rattle.rules.specs.Sums.{refusals-7, refusals-8}
 use Rattle.rules.proofs.Tests.{neither}
@@ -27,44 +27,40 @@ after-shape size others inputs lent more e =
     let (first, rest) = neither (not (in-bounds size)) (any out-of-bounds others) bounds in
     (holds (not-false (in-bounds size) first), rest, e)
 
--- ---- each search: its grids are in bounds, its limit is no NaN, its budget is above 0, and no time is below 0
+-- ---- each search: its limit is no NaN, its budget is above 0, and no time is below 0; the grids of 7 and 8 are in bounds
 
-pub accepted-1 : (targets : Grid ℕ) (spacing : Spacing) (lent : Lent) → refusals-1 targets spacing lent ≡ passes → T (in-bounds (targets .size)) × (isNan (spacing .limit) ≡ false)
+pub accepted-1 : (targets : Grid ℕ) (spacing : Spacing) (lent : Lent) → refusals-1 targets spacing lent ≡ passes → isNan (spacing .limit) ≡ false
 unfolding refusals-1
 accepted-1 targets spacing lent e =
     let (bounds, others, e) = after-shape _ _ _ _ _ e in
     let (cell-size, e) = not-held _ _ e in
-    (bounds, (not-held _ _ e) .0)
-
-pub accepted-2 : (targets obstacles : Grid ℕ) (spacing : Spacing) (lent : Lent) → refusals-2 targets obstacles spacing lent ≡ passes → T (in-bounds (targets .size))
-unfolding refusals-2
-accepted-2 targets obstacles spacing lent e = (after-shape _ _ _ _ _ e) .0
+    (not-held _ _ e) .0
 
 pub accepted-3 :
     (targets : Grid ℕ) (times : Grid Float) (cap : Float) (lent : Lent) → refusals-3 targets times cap lent ≡ passes
-    → T (in-bounds (targets .size)) × (isNan cap ≡ false) × (any below-zero (times .cells) ≡ false)
+    → (isNan cap ≡ false) × (any below-zero (times .cells) ≡ false)
 unfolding refusals-3
 accepted-3 targets times cap lent e =
     let (bounds, others, e) = after-shape _ _ _ _ _ e in
     let (limit, e) = not-held _ _ e in
-    (bounds, limit, (not-held _ _ e) .0)
+    (limit, (not-held _ _ e) .0)
 
 pub accepted-5 :
     (targets : Grid ℕ) (times values : Grid Float) (lent : Lent) → refusals-5 targets times values lent ≡ passes
-    → T (in-bounds (targets .size)) × (any below-zero (times .cells) ≡ false)
+    → any below-zero (times .cells) ≡ false
 unfolding refusals-5
 accepted-5 targets times values lent e =
     let (bounds, others, e) = after-shape _ _ _ _ _ e in
-    (bounds, (not-held _ _ e) .0)
+    (not-held _ _ e) .0
 
 pub accepted-6 :
     (targets : Grid ℕ) (times values : Grid Float) (limit : Float) (lent : Lent) → refusals-6 targets times values limit lent ≡ passes
-    → T (in-bounds (targets .size)) × (isNan limit ≡ false) × (any below-zero (times .cells) ≡ false)
+    → (isNan limit ≡ false) × (any below-zero (times .cells) ≡ false)
 unfolding refusals-6
 accepted-6 targets times values limit lent e =
     let (bounds, others, e) = after-shape _ _ _ _ _ e in
     let (number, e) = not-held _ _ e in
-    (bounds, number, (not-held _ _ e) .0)
+    (number, (not-held _ _ e) .0)
 
 -- Of 7 both the mask and the times are in bounds.
 pub accepted-7 :

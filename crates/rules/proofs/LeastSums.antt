@@ -20,7 +20,7 @@ use Rattle.fifo.proofs.LeastSums.{least-sums}
 use Rattle.fifo.proofs.Search.{closed-first}
 use Rattle.rules.specs.declared.BarrierDiagonals.{BarrierDiagonals}
 use Rattle.rules.specs.Numbers.{infinity}
-use Rattle.rules.specs.Sizes.{Size, Grid, in-bounds}
+use Rattle.rules.specs.Sizes.{Size, Grid}
 use Rattle.rules.specs.Cells.{moves}
 use Rattle.rules.specs.Distances.{target, target-data, from-targets, plain, free, blocked, with-obstacles, half-sum, both-data, travel}
 use Rattle.rules.specs.Paths.{Path, Allowed-2, AllowedBy, LeastOrCap, HoldsLeastSums, LeastSums-1, LeastSums-2, LeastSums-3}
@@ -90,9 +90,9 @@ one-test-holds-least-sums net size test cost from cap costs nbrs-are enterable-i
 abbrev own-length : ℕ → ℕ → Float → Float
 own-length u v s = s
 
-pub least-sums-1 : (targets : Grid ℕ) (cap : Float) → T (in-bounds (targets .size)) → T (fits binary32 cap) → isNan cap ≡ false → LeastSums-1 targets cap
+pub least-sums-1 : (targets : Grid ℕ) (cap : Float) → T (fits binary32 cap) → isNan cap ≡ false → LeastSums-1 targets cap
 unfolding plain
-least-sums-1 targets cap bounds held number =
+least-sums-1 targets cap held number =
     one-test-holds-least-sums (plain targets cap) (targets .size) (target-data targets) own-length (from-targets (target targets) cap) cap
     (plain-costs targets cap held number) (λ u. refl) (λ c. refl) (λ c. refl)
 
@@ -105,9 +105,9 @@ least-sums-3 targets times cap times-good held number =
 
 -- ---- search 2: a second test for the diagonal neighbours
 
-pub least-sums-2 : (targets obstacles : Grid ℕ) (diagonals : BarrierDiagonals) → T (in-bounds (targets .size)) → LeastSums-2 targets obstacles diagonals
+pub least-sums-2 : (targets obstacles : Grid ℕ) (diagonals : BarrierDiagonals) → LeastSums-2 targets obstacles diagonals
 unfolding with-obstacles
-least-sums-2 targets obstacles diagonals bounds =
+least-sums-2 targets obstacles diagonals =
     holds-least-sums (obstacles-costs targets obstacles diagonals) steps (λ c. false) (λ c. absurd)
     (λ c inside rests unmarked. ap (λ b. cond b plus-zero infinity) rests)
   where

@@ -65,7 +65,7 @@ module _
         let timed = grid times-size times in
         let valued = grid values-size values in
         let found = accepted-found (refusals-5 of timed valued (lengths answer distances marks queue)) _ _ t (promise .promised) said in
-        let (bounds, none-negative) = accepted-5 of timed valued (lengths answer distances marks queue) (found .passed) in
+        let none-negative = accepted-5 of timed valued (lengths answer distances marks queue) (found .passed) in
         let times-good : AcceptedTimes timed = record { held = times-held; none-negative = none-negative } in
         let closest-ones = closest-targets-by-time of timed valued infinity times-good (inf-fits binary32 false) infinity-not-nan in
         answers (closest-by-time-laws of timed valued infinity times-good (inf-fits binary32 false) infinity-not-nan) size refl closest-ones (closest-ones .takes-within-square) found
@@ -80,7 +80,7 @@ module _
         let timed = grid times-size times in
         let valued = grid values-size values in
         let found = accepted-found (refusals-6 of timed valued limit (lengths answer distances marks queue)) _ _ t (promise .promised) said in
-        let (bounds, number, none-negative) = accepted-6 of timed valued limit (lengths answer distances marks queue) (found .passed) in
+        let (number, none-negative) = accepted-6 of timed valued limit (lengths answer distances marks queue) (found .passed) in
         let times-good : AcceptedTimes timed = record { held = times-held; none-negative = none-negative } in
         let closest-ones = closest-targets-by-time of timed valued limit times-good held number in
         answers (closest-by-time-laws of timed valued limit times-good held number) size refl closest-ones (closest-ones .takes-within-square) found

@@ -157,7 +157,7 @@ module _ (size : Size) (targets : List ℕ) (times-size : Size) (times : List Fl
         ((c : ℕ) → T (fits binary32 (getD times c nan))) → T (fits binary32 limit) → Searches by-time-search (grids targets targets times values) answer distances marks queue
     unfolding refusals-6
     searches-6 times-held held =
-        let (bounds, number, none-negative) = accepted-6 (grid size targets) (grid times-size times) (grid values-size values) limit (lent-of answer distances marks queue) pass in
+        let (number, none-negative) = accepted-6 (grid size targets) (grid times-size times) (grid values-size values) limit (lent-of answer distances marks queue) pass in
         by-time-searches (shaped _ _ _ _ _ (record { is = sym pass })) refl times-held held number none-negative
 
     pub searched-6 : searched by-time-search (grids targets targets times values) ≡ by-time-outcome
@@ -175,7 +175,7 @@ module _
         → Searches (by-time-search size targets times-size times values-size values limit) (grids targets targets times values) answer distances marks queue
     unfolding refusals-5
     searches-5 times-held =
-        let (bounds, none-negative) = accepted-5 (grid size targets) (grid times-size times) (grid values-size values) (lent-of answer distances marks queue) pass in
+        let none-negative = accepted-5 (grid size targets) (grid times-size times) (grid values-size values) (lent-of answer distances marks queue) pass in
         by-time-searches size targets times-size times values-size values limit (shaped _ _ _ _ _ (record { is = sym pass })) refl times-held
         (rw unlimited (inf-fits binary32 false)) (rw unlimited infinity-not-nan) none-negative
 
