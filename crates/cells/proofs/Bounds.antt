@@ -14,16 +14,10 @@ use mir.Val.{Fits, SFits, bits, toZ, ofZ}
 use mir.Facts.{toZ-ofZ, and-yes}
 use Rattle.fifo.proofs.Lists.{holds}
 use Rattle.rules.proofs.Tests.{and-then, and-not}
+use Rattle.rules.proofs.Inputs.{cells-at-most}
 use Rattle.rules.specs.declared.Size.{Size}
-use Rattle.rules.specs.Sizes.{side-fits, count, in-bounds, same-number, same-size}
+use Rattle.rules.specs.Sizes.{side-max, cells-max, side-fits, count, in-bounds, same-number, same-size}
 use Rattle.cells.specs.Counting.{Countable}
-
--- The bounds.
-abbrev pub side-max : ℕ
-side-max = 32767
-
-abbrev pub cells-max : ℕ
-cells-max = 1048576
 
 -- ---- a side, and a size, within the bounds
 
@@ -42,19 +36,15 @@ pub record Bounded (size : Size) : Type 0 where
   pub cols-side : Side (size .cols)
   pub cells-most : count size ≤ cells-max
 
-pub bounded : (size : Size) → T (in-bounds size) → Bounded size
-bounded size inside =
-    let all = and-yes (side-fits (size .rows) && side-fits (size .cols)) (leb (count size) cells-max) inside in
-    let sides = and-yes (side-fits (size .rows)) (side-fits (size .cols)) (all .0) in
-    record {
-      rows-side = side (size .rows) (sides .0);
-      cols-side = side (size .cols) (sides .1);
-      cells-most = leb→le (count size) cells-max (all .1);
-    }
-
+-- Both sides of such a size fit.
 pub sides-fit : (size : Size) → T (in-bounds size) → T (side-fits (size .rows)) × T (side-fits (size .cols))
 sides-fit size inside =
     and-yes (side-fits (size .rows)) (side-fits (size .cols)) (and-yes (side-fits (size .rows) && side-fits (size .cols)) (leb (count size) cells-max) inside .0)
+
+pub bounded : (size : Size) → T (in-bounds size) → Bounded size
+bounded size inside =
+    let (rows-fit, cols-fit) = sides-fit size inside in
+    record { rows-side = side (size .rows) rows-fit; cols-side = side (size .cols) cols-fit; cells-most = cells-at-most size inside }
 
 pub countable : {size : Size} → T (in-bounds size) → Countable size
 countable {size} inside = let within = bounded size inside in record { rows-natural = within .rows-side .is-mag; cols-natural = within .cols-side .is-mag }

@@ -15,12 +15,12 @@ use mir.Syntax.{w32}
 use mir.Val.{Fits, SFits, toZ}
 use mir.Facts.{toZ-ofZ, and-yes, yes-and}
 use Rattle.rules.specs.declared.Size.{Size}
-use Rattle.rules.specs.Sizes.{count}
+use Rattle.rules.specs.Sizes.{cells-max, count}
 use Rattle.rules.specs.Cells.{offsets, index, row-of, col-of, within}
 use Rattle.cells.specs.Neighbours.{CellOf, Place, place-of}
 use Rattle.cells.specs.Storing.{Step, stay, on, back}
 use Rattle.rules.proofs.Tests.{and-then, and-not}
-use Rattle.cells.proofs.Bounds.{cells-max, Side, Bounded, bounded, read, side-read, side-same, cast-is, product-fits, product-read}
+use Rattle.cells.proofs.Bounds.{Side, Bounded, bounded, read, side-read, side-same, cast-is, product-fits, product-read}
 
 -- ---- between the edges
 

@@ -17,19 +17,16 @@ use Rattle.binary32.proofs.Costs.{sum-non-negative}
 use Rattle.binary32.proofs.StepCosts.{straight-non-negative}
 use Rattle.fifo.proofs.Lists.{by-test, holds}
 use Rattle.rules.specs.Numbers.{whole, quarter-of-largest}
-use Rattle.rules.specs.Sizes.{Size, Grid, side-fits, in-bounds, any, below-zero, count}
+use Rattle.rules.specs.Sizes.{Size, Grid, cells-max, side-fits, in-bounds, any, below-zero, count}
 use Rattle.rules.specs.Distances.{float, has-data}
 use Rattle.rules.specs.Sums.{time-or-quarter}
 use Rattle.rules.proofs.Any.{none-passes}
 
 -- ---- sizes
 
--- The most cells that a grid may have.
-abbrev pub most-cells : ℕ
-most-cells = 1048576
-
-pub cells-at-most : (size : Size) → T (in-bounds size) → count size ≤ most-cells
-cells-at-most size bounds = leb→le (count size) most-cells (and-r (side-fits (size .rows) && side-fits (size .cols)) (leb (count size) most-cells) bounds)
+-- A size within the bounds has at most 1,048,576 cells.
+pub cells-at-most : (size : Size) → T (in-bounds size) → count size ≤ cells-max
+cells-at-most size bounds = leb→le (count size) cells-max (and-r (side-fits (size .rows) && side-fits (size .cols)) (leb (count size) cells-max) bounds)
 
 -- ---- caps
 

@@ -11,10 +11,10 @@ use lib.Ieee.{Float}
 use Rattle.fifo.specs.Machine.{Net, passing, takes-of}
 use Rattle.fifo.specs.Laws.{EndsWithinSquare}
 use Rattle.fifo.proofs.Ranges.{length-passing}
-use Rattle.rules.specs.Sizes.{Grid, in-bounds, count}
+use Rattle.rules.specs.Sizes.{Grid, cells-max, in-bounds, count}
 use Rattle.rules.specs.Distances.{target}
 use Rattle.rules.specs.Sums.{Run, run-of, total-takes, from-mask-cell, runs-7, from-amount, counts, runs-8}
-use Rattle.rules.proofs.Inputs.{most-cells, cells-at-most, AcceptedTimes, AcceptedBudget}
+use Rattle.rules.proofs.Inputs.{cells-at-most, AcceptedTimes, AcceptedBudget}
 use Rattle.rules.proofs.Squares.{mask-cell-ends, amount-ends}
 
 -- The takes over all starts together, whatever they come to.
@@ -23,13 +23,13 @@ summed-takes before runs = foldl (λ total run. total + run .takes) before runs
 
 -- A grid has at most 2 ^ 20 cells, so that the search from one start takes at most 2 ^ 40.
 abbrev pub most-takes : ℕ
-most-takes = most-cells * most-cells
+most-takes = cells-max * cells-max
 
 -- What is at most the square of the cells is at most that.
-pub within-most : {takes cells : ℕ} → takes ≤ cells * cells → cells ≤ most-cells → takes ≤ most-takes
+pub within-most : {takes cells : ℕ} → takes ≤ cells * cells → cells ≤ cells-max → takes ≤ most-takes
 within-most within few = le-trans within (mul-le-mul few few)
 
-takes-at-most : (net : Net Float) → EndsWithinSquare net → net .cells ≤ most-cells → takes-of net ≤ most-takes
+takes-at-most : (net : Net Float) → EndsWithinSquare net → net .cells ≤ cells-max → takes-of net ≤ most-takes
 takes-at-most net ends few = within-most (ends .takes-within-square) (le-trans (ends .room-within-cells) few)
 
 -- Each start adds at most that.
@@ -42,7 +42,7 @@ summed-at-most net each before (c ∷ cells) = omega (arith, each c, summed-at-m
 -- So at most 2 ^ 20 starts take at most 2 ^ 60 together, and the total is not cut off.
 pub total-is-sum :
     (net : ℕ → Net Float) → ((c : ℕ) → takes-of (net c) ≤ most-takes)
-    → (test : ℕ → Bool) (n : ℕ) → n ≤ most-cells
+    → (test : ℕ → Bool) (n : ℕ) → n ≤ cells-max
     → total-takes (map (run-of net) (passing test 0 n)) ≡ summed-takes 0 (map (run-of net) (passing test 0 n))
 unfolding total-takes
 total-is-sum net each test n few = omega (arith, length-passing test 0 n, summed-at-most net each 0 (passing test 0 n))

@@ -22,9 +22,17 @@ pub record Grid (A : Type 0) : Type 0 where
 abbrev pub grid : {A : Type 0} → Size → List A → Grid A
 grid size cells = record { size = size; cells = cells }
 
+-- The most rows or columns that a grid may have.
+abbrev pub side-max : ℕ
+side-max = 32767
+
+-- The most cells that a grid may have.
+abbrev pub cells-max : ℕ
+cells-max = 1048576
+
 -- Each side is 0 to 32,767.
 abbrev pub side-fits : ℤ → Bool
-side-fits k = leZ (pos 0) k && leZ k (pos 32767)
+side-fits k = leZ (pos 0) k && leZ k (pos side-max)
 
 -- n = rows times columns.
 abbrev pub count : Size → ℕ
@@ -32,7 +40,7 @@ count s = mag (s .rows) * mag (s .cols)
 
 -- The bounds: each side fits, and n is at most 1,048,576.
 abbrev pub in-bounds : Size → Bool
-in-bounds s = side-fits (s .rows) && side-fits (s .cols) && leb (count s) 1048576
+in-bounds s = side-fits (s .rows) && side-fits (s .cols) && leb (count s) cells-max
 
 abbrev pub same-number : ℤ → ℤ → Bool
 same-number k l = leZ k l && leZ l k

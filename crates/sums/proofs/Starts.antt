@@ -13,9 +13,9 @@ use mir.Val.{Fits}
 use Rattle.fifo.specs.Machine.{Net, passing, takes-of}
 use Rattle.fifo.proofs.Ranges.{passing-append, passing-last, length-passing}
 use Rattle.rules.specs.declared.Size.{Size}
-use Rattle.rules.specs.Sizes.{count}
+use Rattle.rules.specs.Sizes.{cells-max, count}
 use Rattle.rules.specs.Sums.{Run, run-of, total-takes}
-use Rattle.rules.proofs.Inputs.{most-cells, cells-at-most}
+use Rattle.rules.proofs.Inputs.{cells-at-most}
 use Rattle.rules.proofs.Totals.{summed-takes, most-takes, within-most, summed-at-most, total-is-sum}
 use Rattle.sums.specs.Ways.{Ways}
 
@@ -66,7 +66,7 @@ module _ (test : ℕ → Bool) (net : ℕ → Net Float) where
       chosen false sum = omega arith
 
   module _ {size : Size} {times : List Float} (ways : Ways size times net) where
-    few : count size ≤ most-cells
+    few : count size ≤ cells-max
     few = cells-at-most size (ways .bounds)
 
     -- The search from one start takes at most the square.
@@ -82,9 +82,9 @@ module _ (test : ℕ → Bool) (net : ℕ → Net Float) where
         let bound = summed-at-most net at-most 0 (passing test 0 (i + 1)) in
         let starts = length-passing test 0 (i + 1) in
         let cells = few in
-        let starts-few : length (passing test 0 (i + 1)) ≤ most-cells = omega arith in
-        let many : length (passing test 0 (i + 1)) * most-takes ≤ most-cells * most-takes = mul-le-mul starts-few (le-refl most-takes) in
-        let together : total + r ≤ most-cells * most-takes = omega arith in
+        let starts-few : length (passing test 0 (i + 1)) ≤ cells-max = omega arith in
+        let many : length (passing test 0 (i + 1)) * most-takes ≤ cells-max * most-takes = mul-le-mul starts-few (le-refl most-takes) in
+        let together : total + r ≤ cells-max * most-takes = omega arith in
         record { fits = lt-of-le-of-lt together (lit< tt) }
 
     -- So the total of the rules is not cut off.

@@ -6,8 +6,8 @@ use native.Mathlib.Omega.{arith}
 use lib.ListN.{length}
 use lib.Ieee.{nan}
 use mir.Syntax.{w64}
-use Rattle.rules.specs.Sizes.{below-zero}
-use Rattle.cells.proofs.Bounds.{cells-max, bounded, cast-fits, cast-is}
+use Rattle.rules.specs.Sizes.{cells-max, below-zero}
+use Rattle.cells.proofs.Bounds.{bounded, cast-fits, cast-is}
 use Rattle.calls.specs.Answer.{judged-as, Passes}
 use Rattle.calls.proofs.RowScans.{AtRow, AtColumn, scan-starts, row-starts, index-in, column-fails, column-passes, row-ends, scan-ends}
 use Rattle.calls.proofs.Judgements.{no-time-is-negative, first-negative-is}

@@ -5,7 +5,8 @@ use native.Mathlib.Omega.{arith}
 use lib.IntN.{natAbs}
 use lib.Signed.{mag}
 use mir.Syntax.{w32}
-use Rattle.cells.proofs.Bounds.{Bounded, bounded, read, cells-max, cast-fits, cast-is}
+use Rattle.rules.specs.Sizes.{cells-max}
+use Rattle.cells.proofs.Bounds.{Bounded, bounded, read, cast-fits, cast-is}
 use Rattle.cells.proofs.Interior.{around-below, around-above, around-lists}
 use Rattle.cells.proofs.neighbours.interior_neighbours.Statement.{statement}
 use Rattle.cells.proofs.neighbours.interior_neighbours.Tie as tie
