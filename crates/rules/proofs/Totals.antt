@@ -1,6 +1,6 @@
 -- The total of the takes over all starts of searches 7 and 8 stays below what a u64 holds, so it is the plain sum. Assumes nothing.
 use mathlib.Core.Bool.{Bool}
-use mathlib.Core.List.{List, [], _∷_, map, foldl}
+use mathlib.Core.List.{List, [], _∷_, map}
 use mathlib.Core.Path.{_≡_}
 use Prim.Native.Nat.{ℕ, _+_, _*_, _≤_}
 use native.Mathlib.Nat.{le-trans, mul-le-mul}
@@ -13,13 +13,9 @@ use Rattle.fifo.specs.Laws.{EndsWithinSquare}
 use Rattle.fifo.proofs.Ranges.{length-passing}
 use Rattle.rules.specs.Sizes.{Grid, cells-max, in-bounds, count}
 use Rattle.rules.specs.Distances.{target}
-use Rattle.rules.specs.Sums.{Run, run-of, total-takes, from-mask-cell, runs-7, from-amount, counts, runs-8}
+use Rattle.rules.specs.Sums.{run-of, summed-takes, total-takes, from-mask-cell, runs-7, from-amount, counts, runs-8}
 use Rattle.rules.proofs.Inputs.{cells-at-most, AcceptedTimes, AcceptedBudget}
 use Rattle.rules.proofs.Squares.{mask-cell-ends, amount-ends}
-
--- The takes over all starts together, whatever they come to.
-abbrev pub summed-takes : ℕ → List Run → ℕ
-summed-takes before runs = foldl (λ total run. total + run .takes) before runs
 
 -- A grid has at most 2 ^ 20 cells, so that the search from one start takes at most 2 ^ 40.
 abbrev pub most-takes : ℕ

@@ -24,9 +24,13 @@ pub record Run : Type 0 where
 abbrev pub run-of : (ℕ → Net Float) → ℕ → Run
 run-of net c = record { from = c; takes = takes-of (net c); ends = finish (net c) }
 
+-- The takes over all starts together, whatever they come to.
+abbrev pub summed-takes : ℕ → List Run → ℕ
+summed-takes before runs = foldl (λ total run. total + run .takes) before runs
+
 -- takes over all starts together, where a total above 18,446,744,073,709,551,615 is given as that number.
 unfoldable pub total-takes : List Run → ℕ
-total-takes runs = min (foldl (λ total run. total + run .takes) 0 runs) 18446744073709551615
+total-takes runs = min (summed-takes 0 runs) 18446744073709551615
 
 -- ---- 7: sum_within_travel_distance
 

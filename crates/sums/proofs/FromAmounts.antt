@@ -12,8 +12,7 @@ use Rattle.fifo.specs.Machine.{passing, takes-of}
 use Rattle.rules.specs.declared.Size.{Size}
 use Rattle.rules.specs.Sizes.{grid, count}
 use Rattle.rules.specs.Distances.{float}
-use Rattle.rules.specs.Sums.{Run, run-of, from-amount, counts, runs-8, gaining-of, gaining, gain, gains}
-use Rattle.rules.proofs.Totals.{summed-takes}
+use Rattle.rules.specs.Sums.{Run, run-of, summed-takes, from-amount, counts, runs-8, gaining-of, gaining, gain, gains}
 use Rattle.spread.specs.declared.search.Rule.the-variants.{FromAmount}
 use Rattle.spread.specs.declared.search.Search.{Search}
 use Rattle.spread.specs.Steps.{terrain}

@@ -12,9 +12,8 @@ use Rattle.fifo.specs.Machine.{passing}
 use Rattle.rules.specs.declared.Size.{Size}
 use Rattle.rules.specs.Sizes.{Grid, grid, number-at, Judged, passes, stops, accepted, unless, first-that-holds, count}
 use Rattle.rules.specs.Distances.{target}
-use Rattle.rules.specs.Sums.{Run, run-of, total-takes, from-mask-cell, runs-7, over-budget, sum-of, sums, refusal-7}
+use Rattle.rules.specs.Sums.{Run, run-of, summed-takes, total-takes, from-mask-cell, runs-7, over-budget, sum-of, sums, refusal-7}
 use Rattle.rules.proofs.Refusals.{later-decide}
-use Rattle.rules.proofs.Totals.{summed-takes}
 use Rattle.sums.specs.declared.mask_cell.MaskSum.{MaskSum}
 use Rattle.sums.specs.declared.mask.Searched.{Searched}
 use Rattle.sums.specs.declared.mask.Found.the-variants.{All, Over}

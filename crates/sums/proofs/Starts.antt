@@ -14,9 +14,9 @@ use Rattle.fifo.specs.Machine.{Net, passing, takes-of}
 use Rattle.fifo.proofs.Ranges.{passing-append, passing-last, length-passing}
 use Rattle.rules.specs.declared.Size.{Size}
 use Rattle.rules.specs.Sizes.{cells-max, count}
-use Rattle.rules.specs.Sums.{Run, run-of, total-takes}
+use Rattle.rules.specs.Sums.{Run, run-of, summed-takes, total-takes}
 use Rattle.rules.proofs.Inputs.{cells-at-most}
-use Rattle.rules.proofs.Totals.{summed-takes, most-takes, within-most, summed-at-most, total-is-sum}
+use Rattle.rules.proofs.Totals.{most-takes, within-most, summed-at-most, total-is-sum}
 use Rattle.sums.specs.Ways.{Ways}
 
 module _ (test : ℕ → Bool) (net : ℕ → Net Float) where
@@ -59,7 +59,7 @@ module _ (test : ℕ → Bool) (net : ℕ → Net Float) where
   pub total-next :
       (i : ℕ) {total r : ℕ} → total ≡ summed-takes 0 (runs-to i) → r ≡ cond (test i) (takes-of (net i)) 0 → total + r ≡ summed-takes 0 (runs-to (i + 1))
   total-next i {total} {r} so-far more =
-      ap (λ t. t + r) so-far ∙ ap (λ t. summed-takes 0 (runs-to i) + t) more ∙ chosen (test i) (summed-takes 0 (runs-to i)) ∙ sym (fold-next (λ total run. total + run .takes) 0 i)
+      ap (λ t. t + r) so-far ∙ ap (λ t. summed-takes 0 (runs-to i) + t) more ∙ chosen (test i) (summed-takes 0 (runs-to i)) ∙ sym (fold-next _ 0 i)
     where
       chosen : (b : Bool) (sum : ℕ) → sum + cond b (takes-of (net i)) 0 ≡ cond b (sum + takes-of (net i)) sum
       chosen true sum = refl
