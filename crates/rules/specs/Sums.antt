@@ -107,10 +107,14 @@ unfoldable pub refusal-7 : Grid Float → Float → List Run → Judged
 refusal-7 times budget runs = first-that-holds (map (over-budget times budget) runs)
 
 -- The takes and the sums, unless a mask cell is over the budget.
-unfoldable pub outcome-7 : Grid ℕ → Grid Float → Grid Float → Float → Bool → Lent → Outcome
-outcome-7 mask times values budget adjacent lent = unless (refusals-7 mask times values budget lent) (λ search.
+abbrev pub found-7 : Grid ℕ → Grid Float → Grid Float → Float → Bool → Outcome
+found-7 mask times values budget adjacent =
     let runs = runs-7 mask times in
-    unless (refusal-7 times budget runs) (λ search. accepted (total-takes runs) (sums times values budget adjacent runs)))
+    unless (refusal-7 times budget runs) (λ search. accepted (total-takes runs) (sums times values budget adjacent runs))
+
+-- What the search finds, unless a test refuses.
+unfoldable pub outcome-7 : Grid ℕ → Grid Float → Grid Float → Float → Bool → Lent → Outcome
+outcome-7 mask times values budget adjacent lent = unless (refusals-7 mask times values budget lent) (λ search. found-7 mask times values budget adjacent)
 
 -- ---- 8: sum_targets_within_travel_distance
 
@@ -171,7 +175,11 @@ refusals-8 times amounts budget lent = first-that-holds (
     bad-budget budget ∷ negative-time (times .cells) ∷ []))
 
 -- The takes and the gains.
-unfoldable pub outcome-8 : Grid Float → Grid Float → Float → Lent → Outcome
-outcome-8 times amounts budget lent = unless (refusals-8 times amounts budget lent) (λ search.
+abbrev pub found-8 : Grid Float → Grid Float → Float → Outcome
+found-8 times amounts budget =
     let runs = runs-8 times amounts budget in
-    accepted (total-takes runs) (gains times amounts budget runs))
+    accepted (total-takes runs) (gains times amounts budget runs)
+
+-- What the search finds, unless a test refuses.
+unfoldable pub outcome-8 : Grid Float → Grid Float → Float → Lent → Outcome
+outcome-8 times amounts budget lent = unless (refusals-8 times amounts budget lent) (λ search. found-8 times amounts budget)

@@ -14,9 +14,9 @@ use Rattle.fifo.proofs.Lists.{tested, holds}
 use Rattle.fifo.proofs.Induction.{takes-stopped}
 use Rattle.fifo.proofs.Ends.{laws-within}
 use Rattle.rules.specs.declared.Size.{Size}
-use Rattle.rules.specs.Sizes.{Grid, grid, Judged, Lent, Outcome, accepted, passes, unless, count}
+use Rattle.rules.specs.Sizes.{Grid, grid, Judged, Lent, Outcome, passes, unless, count}
 use Rattle.rules.specs.Distances.{has-data}
-use Rattle.rules.specs.Sums.{total-takes, from-amount, runs-8, gains, refusals-8}
+use Rattle.rules.specs.Sums.{from-amount, refusals-8, found-8}
 use Rattle.rules.proofs.Inputs.{AcceptedTimes, AcceptedBudget}
 use Rattle.rules.proofs.Accepted.{accepted-8}
 use Rattle.rules.proofs.Nets.{amount-laws}
@@ -140,8 +140,7 @@ module _ (size : Size) (times : List Float) (amounts-size : Size) (amounts : Lis
   -- What the search answers, in the rules' words.
   pub sums-are :
       (lent : Lent) → refusals-8 (grid size times) (grid amounts-size amounts) limit lent ≡ passes
-      → summed size times amounts limit
-      ≡ accepted (total-takes (runs-8 (grid size times) (grid amounts-size amounts) limit)) (gains (grid size times) (grid amounts-size amounts) limit (runs-8 (grid size times) (grid amounts-size amounts) limit))
+      → summed size times amounts limit ≡ found-8 (grid size times) (grid amounts-size amounts) limit
   unfolding summed refusals-8
   sums-are lent pass =
       let known = shaped _ _ _ _ _ (record { is = sym pass }) in

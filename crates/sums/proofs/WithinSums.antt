@@ -9,8 +9,8 @@ use lib.ListN.{length, getD, replicate, length-replicate}
 use Rattle.binary32.specs.Numbers.{plus-zero}
 use Rattle.fifo.proofs.Ends.{laws-within}
 use Rattle.rules.specs.declared.Size.{Size}
-use Rattle.rules.specs.Sizes.{grid, Judged, Lent, Outcome, accepted, passes, unless}
-use Rattle.rules.specs.Sums.{total-takes, from-mask-cell, runs-7, sums, refusals-7, refusal-7}
+use Rattle.rules.specs.Sizes.{grid, Judged, Lent, Outcome, passes, unless}
+use Rattle.rules.specs.Sums.{from-mask-cell, refusals-7, found-7}
 use Rattle.rules.proofs.Accepted.{accepted-7}
 use Rattle.rules.proofs.Nets.{mask-cell-laws}
 use Rattle.calls.specs.declared.answer.Answer.{Answer}
@@ -147,8 +147,7 @@ module _ (size : Size) (mask : List ℕ) (times-size : Size) (times : List Float
   pub mask-outcome-is :
       (include-adjacent : Bool) (lent : Lent) → refusals-7 (grid size mask) (grid times-size times) (grid values-size values) limit lent ≡ passes
       → mask-outcome size mask times values limit include-adjacent
-      ≡ (let runs = runs-7 (grid size mask) (grid times-size times) in
-      unless (refusal-7 (grid times-size times) limit runs) (λ search. accepted (total-takes runs) (sums (grid times-size times) (grid values-size values) limit include-adjacent runs)))
+      ≡ found-7 (grid size mask) (grid times-size times) (grid values-size values) limit include-adjacent
   unfolding mask-outcome refusals-7
   mask-outcome-is include-adjacent lent pass =
       let known = shaped _ _ _ _ _ (record { is = sym pass }) in

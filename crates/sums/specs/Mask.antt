@@ -7,9 +7,9 @@ use lib.Ieee.{Float}
 use lib.ListN.{length, set, replicate}
 use Rattle.binary32.specs.Numbers.{plus-zero}
 use Rattle.rules.specs.declared.Size.{Size}
-use Rattle.rules.specs.Sizes.{grid, number-at, Outcome, refused, accepted, unless, count}
+use Rattle.rules.specs.Sizes.{grid, number-at, Outcome, refused, accepted, count}
 use Rattle.rules.specs.Distances.{target}
-use Rattle.rules.specs.Sums.{total-takes, from-mask-cell, runs-7, over-budget, sum-of, sums, refusal-7}
+use Rattle.rules.specs.Sums.{from-mask-cell, sum-of, over-budget, found-7}
 use Rattle.calls.specs.declared.answer.Answer.{Answer}
 use Rattle.calls.specs.Answer.{told, tell, answer-after}
 use Rattle.sums.specs.declared.mask.Searched.{Searched}
@@ -50,9 +50,7 @@ pub record SearchingMask (size : Size) (mask : List ℕ) (times values answer di
 
 -- What the rules answer once no test refuses: refusal 7, or the sums.
 unfoldable pub mask-outcome : Size → List ℕ → List Float → List Float → Float → Bool → Outcome
-mask-outcome size mask times values limit include-adjacent =
-    let runs = runs-7 (grid size mask) (grid size times) in
-    unless (refusal-7 (grid size times) limit runs) (λ search. accepted (total-takes runs) (sums (grid size times) (grid size values) limit include-adjacent runs))
+mask-outcome size mask times values limit include-adjacent = found-7 (grid size mask) (grid size times) (grid size values) limit include-adjacent
 
 -- What the code found says the same: refusal 7 with the mask cell's index, or the takes and the answer.
 abbrev pub found-as : Found → List Float → Outcome

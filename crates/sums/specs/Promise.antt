@@ -7,8 +7,8 @@ use lib.Ieee.{Float}
 use lib.ListN.{length}
 use Rattle.binary32.specs.Numbers.{plus-zero}
 use Rattle.rules.specs.declared.Size.{Size}
-use Rattle.rules.specs.Sizes.{grid, Lent, Outcome, accepted, count}
-use Rattle.rules.specs.Sums.{total-takes, outcome-7, runs-8, gains, outcome-8}
+use Rattle.rules.specs.Sizes.{grid, Lent, Outcome, count}
+use Rattle.rules.specs.Sums.{outcome-7, found-8, outcome-8}
 use Rattle.calls.specs.declared.answer.Answer.{Answer}
 use Rattle.calls.specs.Answer.{buffer-after}
 use Rattle.calls.specs.Given.{lent}
@@ -58,6 +58,4 @@ pub record Sums (size : Size) (times amounts : List Float) (limit : Float) (answ
 
 -- The takes and the gains of all runs.
 unfoldable pub summed : Size → List Float → List Float → Float → Outcome
-summed size times amounts limit =
-    let runs = runs-8 (grid size times) (grid size amounts) limit in
-    accepted (total-takes runs) (gains (grid size times) (grid size amounts) limit runs)
+summed size times amounts limit = found-8 (grid size times) (grid size amounts) limit
