@@ -9,15 +9,15 @@ use lib.Ieee.{Float, nan, inf, binary32, ofBits, toBits}
 use Rattle.rules.specs.declared.BarrierDiagonals.the-variants.{Include, Exclude}
 use Rattle.rules.specs.declared.Size.{Size}
 use Rattle.rules.specs.declared.Spacing.{Spacing}
-use Rattle.rules.specs.Sizes.{Outcome, refused, accepted, number, number-at}
+use Rattle.rules.specs.Sizes.{any, Outcome, refused, accepted, number, number-at}
 use Rattle.gridfile.specs.Fields.{fields-after, rising, content-of}
-use Rattle.gridfile.specs.Request.{among, grids-of, head-fits, grids-fit, same, judged}
+use Rattle.gridfile.specs.Request.{grids-of, head-fits, grids-fit, same, judged}
 use Rattle.gridfile.specs.Contents.{floats-from, Asked, refuses, asks, asked}
 use Rattle.gridfile.specs.Answers.{little-endian, float-bytes, field-head, answer-file}
 
 -- `unfolding file-computing` opens every definition of the file form.
 unfoldable pub file-computing : Unit {0}
-unfolding ofBits toBits fields-after rising content-of among grids-of head-fits grids-fit same judged floats-from little-endian float-bytes
+unfolding ofBits toBits fields-after rising content-of any grids-of head-fits grids-fit same judged floats-from little-endian float-bytes
 file-computing = tt
 
 -- ---- how the cases are written

@@ -7,8 +7,9 @@ use native.Mathlib.Omega.{arith}
 use borrow.Author.Tests.{eqb-false, eqb-true, eq-eqb, ne-eqb}
 use lib.Dec.{eqb}
 use lib.ListN.{length}
+use Rattle.rules.specs.Sizes.{any}
 use Rattle.gridfile.specs.Fields.{Part, part, Field, field, Fields, cut, whole, and-then, fields-from, tags, content-of}
-use Rattle.gridfile.specs.Request.{Grids, grids-of, same, by-tag, among}
+use Rattle.gridfile.specs.Request.{Grids, grids-of, same, by-tag}
 use Rattle.gridfile.specs.Lookups.{Sought, Content, Missing, field-at, Has, Found, Exactly, Breach, Next, has-of, then-next, next-grid, grids-in}
 use Rattle.gridfile.specs.declared.grids.Next.the-variants as next
 use Rattle.rules.proofs.Tests.{never}
@@ -117,7 +118,7 @@ module _ (file : List ℕ) where
 
   -- Row by row of the table, the steps are those of the tags in it.
   in-steps : (search at : ℕ) → one-by-one (grids-of search) at (placed (grids-of search)) ≡ steps (has-of (grids-of search)) at
-  unfolding one-by-one then-grid paired content-of among
+  unfolding one-by-one then-grid paired content-of any
   in-steps search at = for-grids (λ ts. one-by-one ts at (placed ts) ≡ steps (has-of ts) at) refl refl refl refl refl refl refl search
 
   -- Fields of exactly these tags are found by tag as they are found by place.

@@ -4,8 +4,9 @@ use mathlib.Core.List.{List}
 use Prim.Native.Nat.{ℕ, _+_}
 use lib.Dec.{leb, eqb}
 use lib.ListN.{length}
+use Rattle.rules.specs.Sizes.{any}
 use Rattle.gridfile.specs.Fields.{part, Fields, cut, whole, byte, u16-of, tags}
-use Rattle.gridfile.specs.Request.{among, grids-of, same, by-tag}
+use Rattle.gridfile.specs.Request.{grids-of, same, by-tag}
 pub use Rattle.gridfile.specs.declared.fields.Sought.{Sought}
 pub use Rattle.gridfile.specs.declared.fields.Sought.the-variants.{Content, Missing}
 pub use Rattle.gridfile.specs.declared.used.Has.{Has}
@@ -39,7 +40,7 @@ has-head file = stands-at file 0 0x01 3 && stands-at file 6 0x02 4 && stands-at 
 
 -- Which of the four grids a list of tags names.
 abbrev pub has-of : List ℕ → Has
-has-of tags = record { targets = among 0x04 tags; obstacles = among 0x05 tags; times = among 0x06 tags; values = among 0x07 tags }
+has-of tags = record { targets = any (eqb 0x04) tags; obstacles = any (eqb 0x05) tags; times = any (eqb 0x06) tags; values = any (eqb 0x07) tags }
 
 -- The content that was found is the grid, and the next field stands behind it.
 abbrev pub then-next : Sought → Next

@@ -7,6 +7,7 @@ use lib.IntN.{pos}
 use lib.Ieee.{binary32, ofBits}
 use Rattle.rules.specs.declared.BarrierDiagonals.{BarrierDiagonals}
 use Rattle.rules.specs.declared.BarrierDiagonals.the-variants.{Include, Exclude}
+use Rattle.rules.specs.Sizes.{any}
 use Rattle.gridfile.specs.Fields.{Part, Field, Fields, cut, whole, byte, u16-of, u32-of, fields-of, tags, rising, content-of, is-field}
 pub use Rattle.gridfile.specs.declared.head.Head.{Head}
 pub use Rattle.gridfile.specs.declared.grids.Grids.{Grids}
@@ -15,11 +16,6 @@ pub use Rattle.gridfile.specs.declared.request.Parsed.{Parsed}
 pub use Rattle.gridfile.specs.declared.request.Parsed.the-variants.{Good, Bad}
 
 -- ---- what each search uses
-
--- Whether a number is in a list.
-unfoldable pub among : ℕ → List ℕ → Bool
-among k [] = false
-among k (l ∷ more) = eqb k l || among k more
 
 -- The grids are exactly these: 04 targets or mask, 05 obstacles, 06 times, 07 values or amounts.
 unfoldable pub grids-of : ℕ → List ℕ
@@ -33,10 +29,10 @@ grids-of search =
 
 -- The cell size is used by searches 1 and 2, the limit by 1, 3, 6, 7 and 8, diagonals by 2, adjacent by 7.
 abbrev pub uses-cell-size : ℕ → Bool
-uses-cell-size search = among search (1 ∷ 2 ∷ [])
+uses-cell-size search = any (eqb search) (1 ∷ 2 ∷ [])
 
 abbrev pub uses-limit : ℕ → Bool
-uses-limit search = among search (1 ∷ 3 ∷ 6 ∷ 7 ∷ 8 ∷ [])
+uses-limit search = any (eqb search) (1 ∷ 3 ∷ 6 ∷ 7 ∷ 8 ∷ [])
 
 abbrev pub uses-diagonals : ℕ → Bool
 uses-diagonals search = eqb search 2
