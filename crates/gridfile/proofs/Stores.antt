@@ -10,6 +10,7 @@ use Rattle.rules.specs.Sizes.{number-at, refused, accepted}
 use Rattle.gridfile.specs.Fields.{u32-of}
 use Rattle.gridfile.specs.Contents.{floats-from}
 use Rattle.gridfile.specs.Answers.{little-endian, field-head, number-field, float-bytes, grid-field, answer-file, Stored, Written}
+use Rattle.rules.proofs.Decided.{equation-decides}
 
 module _ {A : Type 0} where
   -- `todo`, stored from `at` on, makes `now` what `all`, stored from `from` on, makes of `before`.
@@ -204,4 +205,4 @@ accepted-long takes grid =
 
 -- What is written decides the slice and the count.
 pub written-decides : {bytes before after after′ : List ℕ} {count count′ : ℕ} → Written bytes before after count → Written bytes before after′ count′ → (after ≡ after′) × (count ≡ count′)
-written-decides one other = (one .held ∙ sym (other .held), one .all ∙ sym (other .all))
+written-decides one other = (equation-decides (one .held) (other .held), equation-decides (one .all) (other .all))
