@@ -12,15 +12,6 @@ pub const DIRTY_WORD: u32 = 0xA5A5_A5A5;
 // What each float of a lent buffer holds before the call.
 pub const DIRTY_FLOAT: f32 = -77.25;
 
-// Puts a pattern of bits into each cell.
-pub fn fill(cells: &mut [u32], bits: u32) {
-    let mut i = 0;
-    while i < cells.len() {
-        cells[i] = bits;
-        i += 1;
-    }
-}
-
 // Whether the floats have these bits, one for one.
 pub fn same_bits(cells: &[f32], bits: &[u32]) -> bool
     ensures { λ r. ⌜ (r ≡ true → SameBits (now (cells .entry)) (now (bits .entry))) ⌝ }

@@ -3,6 +3,7 @@ use crate::buffers;
 use crate::grids;
 use crate::words;
 use crate::words::At;
+use calls::fill_cells;
 
 // An answer: the takes, or document 01's number of the refusal, with the index where it has one.
 pub enum Told {
@@ -51,7 +52,7 @@ fn accepted(text: &[u8], at: At, cells: &mut [u32]) -> Stored {
 fn refused(text: &[u8], at: At, cells: &mut [u32]) -> Stored {
     let number = words::decimal(text, words::literal(text, at, b"refused "), 7);
     let at = number.at;
-    buffers::fill(cells, left_in_answer(number.value));
+    fill_cells(cells, left_in_answer(number.value));
     if words::peek(text, at) == b' ' {
         let index = words::decimal(text, words::literal(text, at, b" index "), 0xFFFF_FFFF);
         let at = index.at;
