@@ -52,8 +52,8 @@ module _ (text : List ℕ) (from to v d : ℕ) (after : from ≤ to) (within : t
   hex-more small = at-next 16 (v * 16 + d) (omega arith) (omega arith)
 
 -- Of no digits the number is 0.
-pub none : (base : ℕ) (text : List ℕ) (from : ℕ) → Spelled base text from from 0
-none base text from =
+pub no-digits-spell-zero : (base : ℕ) (text : List ℕ) (from : ℕ) → Spelled base text from from 0
+no-digits-spell-zero base text from =
     let e : from - from ≡ 0 = omega arith in
     rw e
 

@@ -6,8 +6,8 @@ use lib.ListN.{length, getD}
 use lib.Ieee.{Float, nan, binary32, toBits}
 
 -- The most cells of an answer.
-abbrev pub most-cells : ℕ
-most-cells = 1024
+abbrev pub most-answer-cells : ℕ
+most-answer-cells = 1024
 
 -- Every cell is v.
 abbrev pub AllAre : List ℕ → ℕ → Type 0

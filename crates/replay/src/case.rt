@@ -1,7 +1,7 @@
 // A whole case: its settings, its grids and its stored answer.
 ghost use Prim.Native.Nat.{_≤_};
 ghost use lib.ListN.{length};
-ghost use Rattle.replay.specs.Buffers.{most-cells};
+ghost use Rattle.replay.specs.Buffers.{most-answer-cells};
 use crate::grids;
 use crate::grids::Grid;
 use crate::settings;
@@ -50,8 +50,8 @@ fn has_values(search: u64) -> bool {
 
 // The number of the answer's cells, which is that of the search's first grid.
 fn answer_cells(search: u64, targets: usize, times: usize) -> usize
-    requires { ⌜ (targets ≤ most-cells) × (times ≤ most-cells) ⌝ }
-    ensures { λ r. ⌜ r ≤ most-cells ⌝ }
+    requires { ⌜ (targets ≤ most-answer-cells) × (times ≤ most-answer-cells) ⌝ }
+    ensures { λ r. ⌜ r ≤ most-answer-cells ⌝ }
 {
     if has_targets(search) {
         return targets;
@@ -73,7 +73,7 @@ fn read_grids(
     ensures { λ r. ⌜ r .obstacles .len ≤ length (now (obstacles .entry)) ⌝ }
     ensures { λ r. ⌜ r .times .len ≤ length (now (times .entry)) ⌝ }
     ensures { λ r. ⌜ r .values .len ≤ length (now (values .entry)) ⌝ }
-    ensures { λ r. ⌜ r .n ≤ most-cells ⌝ }
+    ensures { λ r. ⌜ r .n ≤ most-answer-cells ⌝ }
 {
     let of_targets = grids::byte_grid(text, at, has_targets(search), b"targets ", targets);
     let at = of_targets.at;
@@ -104,12 +104,12 @@ pub fn read_case(
     values: &mut [f32],
     bits: &mut [u32],
 ) -> Case
-    requires { ⌜ most-cells ≤ length (now bits) ⌝ }
+    requires { ⌜ most-answer-cells ≤ length (now bits) ⌝ }
     ensures { λ r. ⌜ r .grids .targets .len ≤ length (now (targets .entry)) ⌝ }
     ensures { λ r. ⌜ r .grids .obstacles .len ≤ length (now (obstacles .entry)) ⌝ }
     ensures { λ r. ⌜ r .grids .times .len ≤ length (now (times .entry)) ⌝ }
     ensures { λ r. ⌜ r .grids .values .len ≤ length (now (values .entry)) ⌝ }
-    ensures { λ r. ⌜ r .grids .n ≤ most-cells ⌝ }
+    ensures { λ r. ⌜ r .grids .n ≤ most-answer-cells ⌝ }
 {
     let settings = settings::head(text, At { pos, ok: true });
     let at = settings.at;

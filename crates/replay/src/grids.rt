@@ -1,7 +1,7 @@
 // The grids of a case, read into lent buffers.
 ghost use Prim.Native.Nat.{_≤_};
 ghost use lib.ListN.{length};
-ghost use Rattle.replay.specs.Buffers.{most-cells};
+ghost use Rattle.replay.specs.Buffers.{most-answer-cells};
 use crate::words;
 use crate::words::At;
 use rules::Size;
@@ -23,7 +23,7 @@ pub struct Grid {
 
 // A grid that the search does not have.
 fn no_grid(at: At) -> Grid
-    ensures { λ r. ⌜ (r .len ≤ 0) × (r .n ≤ most-cells) ⌝ }
+    ensures { λ r. ⌜ (r .len ≤ 0) × (r .n ≤ most-answer-cells) ⌝ }
 {
     Grid {
         size: Size { rows: 0, cols: 0 },
@@ -35,7 +35,7 @@ fn no_grid(at: At) -> Grid
 
 // Rows times columns, and 0 where that is more than an answer can have here.
 fn cell_count(rows: u64, cols: u64) -> usize
-    ensures { λ r. ⌜ r ≤ most-cells ⌝ }
+    ensures { λ r. ⌜ r ≤ most-answer-cells ⌝ }
 {
     let most = CELLS as u64;
     if most < rows {
@@ -53,7 +53,7 @@ fn cell_count(rows: u64, cols: u64) -> usize
 
 // A grid's name, size and number of cells, which is at most `most`. The place is before the cells.
 fn shape(text: &[u8], at: At, name: &[u8], most: usize) -> Grid
-    ensures { λ r. ⌜ (r .len ≤ most) × (r .n ≤ most-cells) ⌝ }
+    ensures { λ r. ⌜ (r .len ≤ most) × (r .n ≤ most-answer-cells) ⌝ }
 {
     let rows = words::signed(text, words::literal(text, at, name));
     let at = rows.at;
@@ -113,7 +113,7 @@ pub fn patterns(text: &[u8], from: At, cells: &mut [u32]) -> At {
 
 // The line of a grid of bytes, where the search has it.
 pub fn byte_grid(text: &[u8], at: At, has: bool, name: &[u8], cells: &mut [u8]) -> Grid
-    ensures { λ r. ⌜ (r .len ≤ length (now (cells .entry))) × (r .n ≤ most-cells) ⌝ }
+    ensures { λ r. ⌜ (r .len ≤ length (now (cells .entry))) × (r .n ≤ most-answer-cells) ⌝ }
 {
     if !has {
         return no_grid(at);
@@ -133,7 +133,7 @@ pub fn byte_grid(text: &[u8], at: At, has: bool, name: &[u8], cells: &mut [u8]) 
 
 // The line of a grid of floats, where the search has it.
 pub fn float_grid(text: &[u8], at: At, has: bool, name: &[u8], cells: &mut [f32]) -> Grid
-    ensures { λ r. ⌜ (r .len ≤ length (now (cells .entry))) × (r .n ≤ most-cells) ⌝ }
+    ensures { λ r. ⌜ (r .len ≤ length (now (cells .entry))) × (r .n ≤ most-answer-cells) ⌝ }
 {
     if !has {
         return no_grid(at);

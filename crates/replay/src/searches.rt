@@ -1,7 +1,7 @@
 // The search of a case, on dirty buffers of the length that the call wants.
 ghost use Prim.Native.Nat.{_≤_};
 ghost use lib.ListN.{length};
-ghost use Rattle.replay.specs.Buffers.{most-cells};
+ghost use Rattle.replay.specs.Buffers.{most-answer-cells};
 use crate::buffers;
 use crate::by_distance;
 use crate::by_sum;
@@ -134,7 +134,7 @@ fn agrees_on(
     values: &[f32],
     bits: &[u32],
 ) -> bool
-    requires { ⌜ length (now bits) ≤ most-cells ⌝ }
+    requires { ⌜ length (now bits) ≤ most-answer-cells ⌝ }
 {
     let n = bits.len();
     let slots = n + 1;
@@ -180,7 +180,7 @@ pub fn agrees(
     requires { ⌜ read .obstacles .len ≤ length (now obstacles) ⌝ }
     requires { ⌜ read .times .len ≤ length (now times) ⌝ }
     requires { ⌜ read .values .len ≤ length (now values) ⌝ }
-    requires { ⌜ (read .n ≤ most-cells) × (read .n ≤ length (now bits)) ⌝ }
+    requires { ⌜ (read .n ≤ most-answer-cells) × (read .n ≤ length (now bits)) ⌝ }
 {
     let grid = read.targets;
     let targets_len = grid.len;

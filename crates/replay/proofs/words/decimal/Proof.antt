@@ -6,7 +6,7 @@ use borrow.Author.Needs.{needs}
 use borrow.Author.Tests.{not-true, ltb-true}
 use lib.ListN.{length}
 use Rattle.replay.specs.Words.{Spelled}
-use Rattle.replay.proofs.Spelling.{none, decimal-more}
+use Rattle.replay.proofs.Spelling.{no-digits-spell-zero, decimal-more}
 use Rattle.replay.proofs.words.decimal.Statement.{statement}
 use Rattle.replay.proofs.words.decimal.Tie as tie
 
@@ -20,7 +20,7 @@ returns : tie.Need-returns Inv-loop μ-loop
 returns c = (search needs, λ h. absurd (false≢true (sym (not-true _ (c .if1 .taken)) ∙ h)))
 
 loop-holds : tie.Need-loop-holds Inv-loop μ-loop
-loop-holds c = (search needs, search needs, none 10 (c .before .before .before .args .text .now) (c .before .before .before .args .at .pos))
+loop-holds c = (search needs, search needs, no-digits-spell-zero 10 (c .before .before .before .args .text .now) (c .before .before .before .args .at .pos))
 
 shared-slice-read-digit : tie.Need-shared-slice-read-digit Inv-loop μ-loop
 shared-slice-read-digit c = search needs

@@ -6,7 +6,7 @@ use native.Mathlib.Omega.{arith}
 use borrow.Author.Needs.{needs}
 use borrow.Author.Tests.{not-true}
 use Rattle.replay.specs.Words.{Spelled}
-use Rattle.replay.proofs.Spelling.{none, hex-more, hex-bound, hex-small}
+use Rattle.replay.proofs.Spelling.{no-digits-spell-zero, hex-more, hex-bound, hex-small}
 use Rattle.replay.proofs.words.hex.Statement.{statement}
 use Rattle.replay.proofs.words.hex.Tie as tie
 
@@ -20,7 +20,7 @@ returns : tie.Need-returns Inv-loop μ-loop
 returns c h = absurd (false≢true (sym (not-true _ (c .if1 .taken)) ∙ h))
 
 loop-holds : tie.Need-loop-holds Inv-loop μ-loop
-loop-holds c = (search needs, search needs, search needs, none 16 (c .before .before .before .args .text .now) (c .before .before .before .args .at .pos))
+loop-holds c = (search needs, search needs, search needs, no-digits-spell-zero 16 (c .before .before .before .args .text .now) (c .before .before .before .args .at .pos))
 
 malformed-requires : tie.Need-malformed-requires Inv-loop μ-loop
 malformed-requires c κs = search needs
