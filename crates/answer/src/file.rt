@@ -12,7 +12,8 @@ ghost use Rattle.answer.specs.Answering.{Answered};
 pub const LONGEST: usize = 4 + 11 + 3 + 4 * FILE_CELLS_MAX;
 
 // The bytes of the longest file that keeps the form: its head, and three grid fields of 3 + 4,096.
-// (That is refusal 3, as its byte grid has more than n cells; each longer one is refusal 8.)
+// (That is refused by 3, as its byte grid has more than n cells, or before that by 1, where a side is
+// beyond the bounds; each longer one is refusal 8.)
 pub const LONGEST_FILE: usize = HEAD_END + 3 * (3 + FIELD_MAX);
 
 // The number that the file form is refused with.

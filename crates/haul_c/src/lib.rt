@@ -1,7 +1,9 @@
-// The searches for programs in other languages: one export for each, with plain numbers and slices.
+// The searches for programs in other languages: one export for each, with plain numbers and slices,
+// and `haul_answer` for a whole grid file.
 //
-// A slice passes as a pointer and then a length. The result is 0, or the number of document 01's
-// refusal. `takes` is written on acceptance only, `index` only with a refusal that has one.
+// A slice passes as a pointer and then a length. The result of a search is 0, or the number of document
+// 01's refusal. `takes` is written on acceptance only, `index` only with a refusal that has one. The
+// result of `haul_answer` is the length of the answer that it wrote.
 mod by_distance;
 mod by_file;
 mod by_sum;
