@@ -27,10 +27,9 @@ pub record Bytes-part (file : List ℕ) (p : Part) : Type 0 where
   pub inside : Inside file p
   pub small : p .len ≤ longest-field
 
--- A float grid's: also a multiple of 4.
+-- A float grid's: such a part, of a multiple of 4 bytes.
 pub record Floats-part (file : List ℕ) (p : Part) : Type 0 where
-  pub inside : Inside file p
-  pub small : p .len ≤ longest-field
+  pub bytes : Bytes-part file p
   pub fours : p .len % 4 ≡ 0
 
 pub record Usable (file : List ℕ) (r : Request) : Type 0 where
@@ -195,6 +194,6 @@ module _ (file : List ℕ) where
         few = subst (λ (q : Request). count (q .size) ≤ most-file-cells) (sym (c .is)) (numbers .2);
         targets = record { inside = inside .targets; small = small .targets };
         obstacles = record { inside = inside .obstacles; small = small .obstacles };
-        times = record { inside = inside .times; small = small .times; fours = small .times-fours };
-        values = record { inside = inside .values; small = small .values; fours = small .values-fours };
+        times = record { bytes = record { inside = inside .times; small = small .times }; fours = small .times-fours };
+        values = record { bytes = record { inside = inside .values; small = small .values }; fours = small .values-fours };
       }

@@ -30,13 +30,13 @@ slice-aggregate-read-floats : tie.Need-slice-aggregate-read-floats
 slice-aggregate-read-floats c = search needs
 
 read-floats-requires : tie.Need-read-floats-requires
-read-floats-requires c κs = let u = known (c .before .before .before .before .before .before .before .before .before .before .before .before .before) .times in (u .inside, let small = u .small in omega arith)
+read-floats-requires c κs = let u = known (c .before .before .before .before .before .before .before .before .before .before .before .before .before) .times .bytes in (u .inside, let small = u .small in omega arith)
 
 slice-aggregate-read-floats-2 : tie.Need-slice-aggregate-read-floats-2
 slice-aggregate-read-floats-2 c = search needs
 
 read-floats-requires-2 : tie.Need-read-floats-requires-2
-read-floats-requires-2 c κs = let u = known (c .before .before .before .before .before .before .before .before .before .before .before .before .before .before .before .before .before .before) .values in (u .inside, let small = u .small in omega arith)
+read-floats-requires-2 c κs = let u = known (c .before .before .before .before .before .before .before .before .before .before .before .before .before .before .before .before .before .before) .values .bytes in (u .inside, let small = u .small in omega arith)
 
 array-share-prefix-targets : tie.Need-array-share-prefix-targets
 array-share-prefix-targets c = let small = known (c .before .before .before .before .before .before .before .before .before .before .before .before .before .before .before .before .before .before .before .before .before) .targets .small in omega arith
@@ -51,13 +51,13 @@ slice-aggregate-search-2 : tie.Need-slice-aggregate-search-2
 slice-aggregate-search-2 c = sym (length-take-le _ _ (array-share-prefix-obstacles (c .before)))
 
 array-share-prefix-times : tie.Need-array-share-prefix-times
-array-share-prefix-times c = let small = known (c .before .before .before .before .before .before .before .before .before .before .before .before .before .before .before .before .before .before .before .before .before .before .before) .times .small in omega arith
+array-share-prefix-times c = let small = known (c .before .before .before .before .before .before .before .before .before .before .before .before .before .before .before .before .before .before .before .before .before .before .before) .times .bytes .small in omega arith
 
 slice-aggregate-search-3 : tie.Need-slice-aggregate-search-3
 slice-aggregate-search-3 c = sym (length-take-le _ _ (array-share-prefix-times (c .before)))
 
 array-share-prefix-values : tie.Need-array-share-prefix-values
-array-share-prefix-values c = let small = known (c .before .before .before .before .before .before .before .before .before .before .before .before .before .before .before .before .before .before .before .before .before .before .before .before) .values .small in omega arith
+array-share-prefix-values c = let small = known (c .before .before .before .before .before .before .before .before .before .before .before .before .before .before .before .before .before .before .before .before .before .before .before .before) .values .bytes .small in omega arith
 
 slice-aggregate-search-4 : tie.Need-slice-aggregate-search-4
 slice-aggregate-search-4 c = sym (length-take-le _ _ (array-share-prefix-values (c .before)))
