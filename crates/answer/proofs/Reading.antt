@@ -11,7 +11,7 @@ use Rattle.rules.specs.Sizes.{refused, number}
 use Rattle.gridfile.specs.declared.request.Parsed.{Parsed}
 use Rattle.gridfile.specs.Contents.{written-out}
 use Rattle.gridfile.specs.Answers.{answer-file}
-use Rattle.gridfile.proofs.Choices.{by-test}
+use Rattle.gridfile.proofs.Choices.{by-cases}
 pub use Rattle.gridfile.proofs.LongFiles.{longest-file}
 use Rattle.gridfile.proofs.LongFiles.{too-long}
 use Rattle.answer.specs.Answering.{outcome-of, answer-to}
@@ -23,7 +23,7 @@ long-refused file long = ap (λ (p : Parsed). answer-file (outcome-of (written-o
 -- Proof: a file that was cut is too long, and so is what was read of it.
 pub read-enough : (file : List ℕ) → answer-to (take (suc longest-file) file) ≡ answer-to file
 read-enough file =
-    by-test (answer-to (take (suc longest-file) file) ≡ answer-to file) (leb (length file) longest-file)
+    by-cases (answer-to (take (suc longest-file) file) ≡ answer-to file) (leb (length file) longest-file)
     (λ short. ap answer-to (take-all (suc longest-file) file (let most = leb-true (length file) longest-file short in omega arith)))
     (λ long.
     let more = leb-false (length file) longest-file long in

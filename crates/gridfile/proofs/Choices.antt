@@ -15,14 +15,14 @@ either P true px py = px
 either P false px py = py
 
 -- Of a Bool, by its two values.
-pub by-test : (P : Type 0) (test : Bool) → (test ≡ true → P) → (test ≡ false → P) → P
-by-test P true holds fails = holds refl
-by-test P false holds fails = fails refl
+pub by-cases : (P : Type 0) (test : Bool) → (test ≡ true → P) → (test ≡ false → P) → P
+by-cases P true holds fails = holds refl
+by-cases P false holds fails = fails refl
 
 -- A choice that comes out as its second cannot is its first, and its test holds.
-pub chosen : {A : Type 0} (test : Bool) {x y outcome : A} → cond test x y ≡ outcome → (y ≡ outcome → ⊥) → (test ≡ true) × (x ≡ outcome)
-chosen true is other = (refl, is)
-chosen false is other = absurd (other is)
+pub chosen-first : {A : Type 0} (test : Bool) {x y outcome : A} → cond test x y ≡ outcome → (y ≡ outcome → ⊥) → (test ≡ true) × (x ≡ outcome)
+chosen-first true is other = (refl, is)
+chosen-first false is other = absurd (other is)
 
 -- Three choices in a row with the same way out are one.
 pub three-choices : {A : Type 0} (a b c : Bool) (x y : A) → cond a (cond b (cond c x y) y) y ≡ cond (a && b && c) x y
@@ -60,8 +60,8 @@ for-grids P of-1 of-2 of-3 of-4 of-567 of-8 of-none search =
 -- A number between two others, by its three values.
 pub of-three : (P : ℕ → Type 0) (a k : ℕ) → a ≤ k → k < a + 3 → P a → P (a + 1) → P (a + 2) → P k
 of-three P a k low high first second third =
-    by-test (P k) (eqb k a) (λ e. subst P (sym (eqb-true k a e)) first)
-    (λ ne. by-test (P k) (eqb k (a + 1)) (λ e. subst P (sym (eqb-true k (a + 1) e)) second)
+    by-cases (P k) (eqb k a) (λ e. subst P (sym (eqb-true k a e)) first)
+    (λ ne. by-cases (P k) (eqb k (a + 1)) (λ e. subst P (sym (eqb-true k (a + 1) e)) second)
     (λ ne′.
     let apart = eqb-false k a ne in
     let apart′ = eqb-false k (a + 1) ne′ in
@@ -69,6 +69,6 @@ of-three P a k low high first second third =
     subst P e third))
 
 -- A number that is no search has no grids.
-pub no-grids : (k : ℕ) → (k ≡ 1 → ⊥) → (k ≡ 2 → ⊥) → (k ≡ 3 → ⊥) → (k ≡ 4 → ⊥) → (k ≡ 5 → ⊥) → (k ≡ 6 → ⊥) → (k ≡ 7 → ⊥) → (k ≡ 8 → ⊥) → grids-of k ≡ []
+pub grids-of-no-search : (k : ℕ) → (k ≡ 1 → ⊥) → (k ≡ 2 → ⊥) → (k ≡ 3 → ⊥) → (k ≡ 4 → ⊥) → (k ≡ 5 → ⊥) → (k ≡ 6 → ⊥) → (k ≡ 7 → ⊥) → (k ≡ 8 → ⊥) → grids-of k ≡ []
 unfolding grids-of
-no-grids k n1 n2 n3 n4 n5 n6 n7 n8 = simp (ne-eqb k 1 n1, ne-eqb k 2 n2, ne-eqb k 3 n3, ne-eqb k 4 n4, ne-eqb k 5 n5, ne-eqb k 6 n6, ne-eqb k 7 n7, ne-eqb k 8 n8)
+grids-of-no-search k n1 n2 n3 n4 n5 n6 n7 n8 = simp (ne-eqb k 1 n1, ne-eqb k 2 n2, ne-eqb k 3 n3, ne-eqb k 4 n4, ne-eqb k 5 n5, ne-eqb k 6 n6, ne-eqb k 7 n7, ne-eqb k 8 n8)

@@ -11,7 +11,7 @@ use Rattle.gridfile.specs.Fields.{part, Field, field, Fields, cut, whole
 use Rattle.gridfile.specs.Request.{Head, Grids, Parsed, Good, Bad, grids-of, same, by-tag, head-of, head-fits, grids-fit, as-request, judged, parsed}
 use Rattle.gridfile.specs.Lookups.{long, stands-at, has-head, Found, Exactly, Breach, grids-in}
 use Rattle.rules.proofs.Tests.{and-both, never}
-use Rattle.gridfile.proofs.Choices.{by-test, three-choices, same-is, for-grids}
+use Rattle.gridfile.proofs.Choices.{by-cases, three-choices, same-is, for-grids}
 use Rattle.gridfile.proofs.Places.{look, looked-for}
 
 -- ---- the first three fields
@@ -31,7 +31,7 @@ module _ (file : List ℕ) (at tag len : ℕ) (P : Fields → Parsed) (wants : W
   first-field : P (fields-from file at) ≡ cond (stands-at file at tag len) after Bad
   first-field =
       look file at tag (λ s w. P w ≡ cond (long len s) after Bad)
-      (λ n room. by-test (P (and-then (field tag (part (at + 3) n)) (fields-from file (at + 3 + n))) ≡ cond (eqb n len) after Bad) (eqb n len)
+      (λ n room. by-cases (P (and-then (field tag (part (at + 3) n)) (fields-from file (at + 3 + n))) ≡ cond (eqb n len) after Bad) (eqb n len)
       (λ e. ap (λ (k : ℕ). P (and-then (field tag (part (at + 3) k)) (fields-from file (at + 3 + k)))) (eqb-true n len e) ∙ sym (ap (λ (t : Bool). cond t after Bad) e))
       (λ e. wants .not-other (field tag (part (at + 3) n)) (fields-from file (at + 3 + n)) (simp (eq-eqb tag tag refl) e) ∙ sym (ap (λ (t : Bool). cond t after Bad) e)))
       (wants .not-none)
@@ -160,7 +160,7 @@ pub record Headed (file : List ℕ) (h : Head) : Type 0 where
   pub reads : h ≡ head-of file 3 9 16
 
 -- And then the grids were found.
-pub record Found-all (file : List ℕ) (h : Head) (g : Grids) : Type 0 where
+pub record FoundAll (file : List ℕ) (h : Head) (g : Grids) : Type 0 where
   pub headed : Headed file h
   pub exact : grids-in (h .search) (fields-from file 24) ≡ Exactly g
 
@@ -172,10 +172,11 @@ module _ {file : List ℕ} {h : Head} where
       ∙ ap (λ (k : Head). requested k (grids-in (k .search) (fields-from file 24))) (sym (headed .reads))
       ∙ ap (requested h) e
 
-  pub no-grids : Headed file h → grids-in (h .search) (fields-from file 24) ≡ Breach → parsed file ≡ Bad
-  no-grids headed e = past-head headed e
+  -- Grids that are not exactly the search's are refusal 8.
+  pub breached-grids : Headed file h → grids-in (h .search) (fields-from file 24) ≡ Breach → parsed file ≡ Bad
+  breached-grids headed e = past-head headed e
 
-  module _ {g : Grids} (all : Found-all file h g) where
+  module _ {g : Grids} (all : FoundAll file h g) where
     pub unfit-head : head-fits h ≡ false → parsed file ≡ Bad
     unfit-head unfit = past-head (all .headed) (all .exact) ∙ simp unfit
 

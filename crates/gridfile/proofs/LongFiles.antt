@@ -13,7 +13,7 @@ use Rattle.gridfile.specs.Lookups.{Exactly, grids-in}
 use Rattle.rules.proofs.Tests.{never}
 use Rattle.gridfile.proofs.Choices.{same-is, for-grids}
 use Rattle.gridfile.proofs.Heads.{head-within}
-use Rattle.gridfile.proofs.Requests.{exactly-found, all-small, came}
+use Rattle.gridfile.proofs.Requests.{exactly-found, fit-are-small, came}
 
 -- ---- bytes and fields
 
@@ -49,9 +49,10 @@ spanned (suc left) at (b ∷ bytes) = one-more left (length bytes) (fields-after
 
 -- ---- fields whose contents are small
 
-abbrev All-small : List Field → List ℕ → Type 0
-All-small fields [] = Unit {0}
-All-small fields (a ∷ more) = (content-of a fields .len ≤ longest-field) × All-small fields more
+-- What each of these tags finds is small.
+abbrev SmallContents : List Field → List ℕ → Type 0
+SmallContents fields [] = Unit {0}
+SmallContents fields (a ∷ more) = (content-of a fields .len ≤ longest-field) × SmallContents fields more
 
 abbrev Apart : ℕ → List ℕ → Type 0
 Apart a [] = Unit {0}
@@ -70,7 +71,7 @@ module _ (f : Field) (fields : List Field) (a : ℕ) (is : f .tag ≡ a) where
   unfolding content-of
   later-content b other = ap (λ (t : Bool). cond t (f .content) (content-of b fields)) (ap (λ (k : ℕ). eqb k b) is ∙ other)
 
-  rest-small : (more : List ℕ) → Apart a more → All-small (f ∷ fields) more → All-small fields more
+  rest-small : (more : List ℕ) → Apart a more → SmallContents (f ∷ fields) more → SmallContents fields more
   rest-small [] apart small = tt
   rest-small (b ∷ more) apart small = (subst (λ (p : Part). p .len ≤ longest-field) (later-content b (apart .0)) (small .0), rest-small more (apart .1) (small .1))
 
@@ -80,7 +81,7 @@ longest-grid = 3 + longest-field
 
 -- Fields with distinct tags have at most that many bytes each. Proof: by the fields; what the tag of the first finds is the first's content,
 -- and what another tag finds is among the others.
-few-bytes : (fields : List Field) (ts : List ℕ) → tags fields ≡ ts → Distinct ts → All-small fields ts → bytes-of fields ≤ longest-grid * length ts
+few-bytes : (fields : List Field) (ts : List ℕ) → tags fields ≡ ts → Distinct ts → SmallContents fields ts → bytes-of fields ≤ longest-grid * length ts
 few-bytes [] [] e apart small = omega arith
 few-bytes [] (a ∷ more) e apart small = never cc
 few-bytes (f ∷ fields) [] e apart small = never cc
@@ -113,7 +114,7 @@ found-short : (search long : ℕ) (w : Fields) (g : Grids) → Spans 0 long w �
 found-short search long w g spans e fit =
     let found = exactly-found search w g e in
     let fields = found .fields in
-    let small = all-small (by-tag fields) (ap grids-fit (found .by-tags) ∙ fit) in
+    let small = fit-are-small (by-tag fields) (ap grids-fit (found .by-tags) ∙ fit) in
     let short = grids-short fields search (same-is (tags fields) (grids-of search) (found .exact)) (small .targets) (small .obstacles) (small .times) (small .values) in
     let spanned-by : long ≡ 0 + bytes-of fields = subst (Spans 0 long) (found .uncut) spans in
     omega arith

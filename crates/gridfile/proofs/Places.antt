@@ -12,7 +12,7 @@ use lib.Seq.{drop-cons, drop-drop}
 use Rattle.gridfile.specs.Fields.{Part, part, Field, field, Fields, cut, whole, and-then, byte, u16-of, fields-after, fields-from}
 use Rattle.gridfile.specs.Lookups.{Sought, Content, Missing, field-at}
 use Rattle.rules.proofs.Tests.{never}
-use Rattle.gridfile.proofs.Choices.{by-test}
+use Rattle.gridfile.proofs.Choices.{by-cases}
 
 -- Passing the rest of a field's content comes to starting after it.
 pub passed : (left at : ℕ) (bytes : List ℕ) → left ≤ length bytes → fields-after left at bytes ≡ fields-after 0 (at + left) (drop left bytes)
@@ -89,7 +89,7 @@ module _ (file : List ℕ) (at : ℕ) where
   -- Where bytes are left, the file is cut or there is a field.
   pub some-left : (Q : Fields → Type 0) → at < length file → Q cut → ((f : Field) (rest : Fields) → Q (and-then f rest)) → Q (fields-from file at)
   some-left Q some if-cut if-field =
-      by-test (Q (fields-from file at)) (leb (at + 3) (length file))
+      by-cases (Q (fields-from file at)) (leb (at + 3) (length file))
       (λ room. subst Q (sym (opened (leb-true (at + 3) (length file) room))) (if-field here after-here))
       (λ few. subst Q (sym (too-few some (leb-false (at + 3) (length file) few))) if-cut)
 
@@ -103,15 +103,15 @@ module _ (file : List ℕ) (at : ℕ) where
 
     pub look : Q (field-at file at tag) (fields-from file at)
     look =
-        by-test (Q (field-at file at tag) (fields-from file at)) (leb (at + 3) (length file))
-        (λ room. by-test (Q (field-at file at tag) (fields-from file at)) (eqb (byte file at) tag)
-        (λ tagged. by-test (Q (field-at file at tag) (fields-from file at)) (leb (at + 3 + len) (length file))
+        by-cases (Q (field-at file at tag) (fields-from file at)) (leb (at + 3) (length file))
+        (λ room. by-cases (Q (field-at file at tag) (fields-from file at)) (eqb (byte file at) tag)
+        (λ tagged. by-cases (Q (field-at file at tag) (fields-from file at)) (leb (at + 3 + len) (length file))
         (λ within.
         let w : at + 3 + len ≤ length file = leb-true _ _ within in
         carried (simp (room, tagged, within)) (whole-field w ∙ ap (λ (t : ℕ). and-then (field t (part (at + 3) len)) (fields-from file (at + 3 + len))) (eqb-true _ _ tagged)) (found len w))
         (λ past. carried (simp (room, tagged, past)) (cut-field (leb-true _ _ room) (leb-false _ _ past)) broken))
         (λ untagged. carried (simp (room, untagged)) (opened (leb-true _ _ room)) (other here after-here untagged)))
-        (λ few. by-test (Q (field-at file at tag) (fields-from file at)) (leb (length file) at)
+        (λ few. by-cases (Q (field-at file at tag) (fields-from file at)) (leb (length file) at)
         (λ end. carried (simp few) (none-left (leb-true _ _ end)) none)
         (λ some. carried (simp few) (too-few (leb-false _ _ some) (leb-false _ _ few)) broken))
 

@@ -14,7 +14,7 @@ use Rattle.gridfile.specs.Fields.{Part, part, Field, field, Fields, cut,
 use Rattle.gridfile.specs.Request.{Head, Grids, Request, Good, grids-of, same, by-tag, head-of, flags-fit, numbers-fit, most-file-cells, few-cells, head-fits, longest-field, small-bytes, small-floats, grids-fit, as-request, parsed}
 use Rattle.gridfile.specs.Lookups.{has-head, Found, Exactly, Breach, grids-in}
 use Rattle.rules.proofs.Tests.{and-both, never}
-use Rattle.gridfile.proofs.Choices.{by-test, chosen, either, all-four}
+use Rattle.gridfile.proofs.Choices.{by-cases, chosen-first, either, all-four}
 use Rattle.gridfile.proofs.Places.{cut-short}
 use Rattle.gridfile.proofs.Heads.{requested, as-judged, head-within}
 
@@ -23,13 +23,13 @@ abbrev pub Inside : List ℕ → Part → Type 0
 Inside file p = p .start + p .len ≤ length file
 
 -- A grid's part: inside the file, and of at most 4,096 bytes.
-pub record Bytes-part (file : List ℕ) (p : Part) : Type 0 where
+pub record BytesPart (file : List ℕ) (p : Part) : Type 0 where
   pub inside : Inside file p
   pub small : p .len ≤ longest-field
 
 -- A float grid's: such a part, of a multiple of 4 bytes.
-pub record Floats-part (file : List ℕ) (p : Part) : Type 0 where
-  pub bytes : Bytes-part file p
+pub record FloatsPart (file : List ℕ) (p : Part) : Type 0 where
+  pub bytes : BytesPart file p
   pub fours : p .len % 4 ≡ 0
 
 pub record Usable (file : List ℕ) (r : Request) : Type 0 where
@@ -38,21 +38,21 @@ pub record Usable (file : List ℕ) (r : Request) : Type 0 where
   pub rows-natural : r .size .rows ≡ pos (mag (r .size .rows))
   pub cols-natural : r .size .cols ≡ pos (mag (r .size .cols))
   pub few : count (r .size) ≤ most-file-cells
-  pub targets : Bytes-part file (r .grids .targets)
-  pub obstacles : Bytes-part file (r .grids .obstacles)
-  pub times : Floats-part file (r .grids .times)
-  pub values : Floats-part file (r .grids .values)
+  pub targets : BytesPart file (r .grids .targets)
+  pub obstacles : BytesPart file (r .grids .obstacles)
+  pub times : FloatsPart file (r .grids .times)
+  pub values : FloatsPart file (r .grids .values)
 
 -- ---- the parts are inside the file
 
 -- Every field ends at n or before.
-abbrev All-end : ℕ → List Field → Type 0
-All-end n [] = Unit {0}
-All-end n (f ∷ fields) = (f .content .start + f .content .len ≤ n) × All-end n fields
+abbrev AllEnd : ℕ → List Field → Type 0
+AllEnd n [] = Unit {0}
+AllEnd n (f ∷ fields) = (f .content .start + f .content .len ≤ n) × AllEnd n fields
 
 abbrev Ends : ℕ → Fields → Type 0
 Ends n cut = Unit {0}
-Ends n (whole fields) = All-end n fields
+Ends n (whole fields) = AllEnd n fields
 
 one-ends : (n : ℕ) (f : Field) (rest : Fields) → f .content .start + f .content .len ≤ n → Ends n rest → Ends n (and-then f rest)
 one-ends n f cut ends others = tt
@@ -68,18 +68,19 @@ fields-end n zero at (tag ∷ low ∷ high ∷ bytes) room =
     let len = low + 256 * high in
     let f = field tag (part (at + 3) len) in
     let rest : Ends n (fields-after len (at + 3) bytes) = fields-end n len (at + 3) bytes (omega arith) in
-    by-test (Ends n (and-then f (fields-after len (at + 3) bytes))) (leb len (length bytes))
+    by-cases (Ends n (and-then f (fields-after len (at + 3) bytes))) (leb len (length bytes))
     (λ e. let long = leb-true len (length bytes) e in one-ends n f (fields-after len (at + 3) bytes) (omega arith) rest)
     (λ e. subst (λ (w : Fields). Ends n (and-then f w)) (sym (cut-short len (at + 3) bytes (leb-false len (length bytes) e))) tt)
 fields-end n (suc left) at [] room = tt
 fields-end n (suc left) at (b ∷ bytes) room = fields-end n left (suc at) bytes (omega arith)
 
-content-ends : (n tag : ℕ) (fields : List Field) → All-end n fields → content-of tag fields .start + content-of tag fields .len ≤ n
+content-ends : (n tag : ℕ) (fields : List Field) → AllEnd n fields → content-of tag fields .start + content-of tag fields .len ≤ n
 unfolding content-of
 content-ends n tag [] all = omega arith
 content-ends n tag (f ∷ fields) all = either (λ (p : Part). p .start + p .len ≤ n) (eqb (f .tag) tag) (all .0) (content-ends n tag fields (all .1))
 
-pub record All-inside (file : List ℕ) (g : Grids) : Type 0 where
+-- Each grid's part ends within the file.
+pub record AllInside (file : List ℕ) (g : Grids) : Type 0 where
   pub targets : Inside file (g .targets)
   pub obstacles : Inside file (g .obstacles)
   pub times : Inside file (g .times)
@@ -96,15 +97,15 @@ pub exactly-found : (search : ℕ) (w : Fields) (g : Grids) → grids-in search 
 unfolding grids-in
 exactly-found search cut g e = never cc
 exactly-found search (whole fields) g e =
-    let passed = chosen (same (tags fields) (grids-of search)) e (λ is. never cc) in
+    let passed = chosen-first (same (tags fields) (grids-of search)) e (λ is. never cc) in
     let is : Exactly (by-tag fields) ≡ Exactly g = passed .1 in
     record { fields = fields; uncut = refl; exact = passed .0; by-tags = cc }
 
-found-inside : (file : List ℕ) (search : ℕ) (w : Fields) (g : Grids) → Ends (length file) w → grids-in search w ≡ Exactly g → All-inside file g
+found-inside : (file : List ℕ) (search : ℕ) (w : Fields) (g : Grids) → Ends (length file) w → grids-in search w ≡ Exactly g → AllInside file g
 found-inside file search w g ends e =
     let found = exactly-found search w g e in
     let all = subst (Ends (length file)) (found .uncut) ends in
-    subst (All-inside file) (found .by-tags) (record {
+    subst (AllInside file) (found .by-tags) (record {
       targets = content-ends (length file) 0x04 (found .fields) all;
       obstacles = content-ends (length file) 0x05 (found .fields) all;
       times = content-ends (length file) 0x06 (found .fields) all;
@@ -114,7 +115,7 @@ found-inside file search w g ends e =
 -- ---- a file that is accepted
 
 -- The lengths that the grids of a file may have.
-pub record AllSmall (g : Grids) : Type 0 where
+pub record SmallGrids (g : Grids) : Type 0 where
   pub targets : g .targets .len ≤ longest-field
   pub obstacles : g .obstacles .len ≤ longest-field
   pub times : g .times .len ≤ longest-field
@@ -122,9 +123,10 @@ pub record AllSmall (g : Grids) : Type 0 where
   pub times-fours : g .times .len % 4 ≡ 0
   pub values-fours : g .values .len % 4 ≡ 0
 
-pub all-small : (g : Grids) → grids-fit g ≡ true → AllSmall g
+-- Grids that fit are small.
+pub fit-are-small : (g : Grids) → grids-fit g ≡ true → SmallGrids g
 unfolding grids-fit
-all-small g fit =
+fit-are-small g fit =
     let small = all-four (small-bytes (g .targets)) (small-bytes (g .obstacles)) (small-floats (g .times)) (small-floats (g .values)) fit in
     let times = and-both (small-bytes (g .times)) (eqb (g .times .len % 4) 0) (small .2) in
     let values = and-both (small-bytes (g .values)) (eqb (g .values .len % 4) 0) (small .3) in
@@ -155,7 +157,7 @@ module _ (file : List ℕ) where
   came-from : (r : Request) (found : Found) → has-head file ≡ true → grids-in (head .search) (fields-from file 24) ≡ found → requested head found ≡ Good r → Came r
   came-from r Breach begins exact e = never cc
   came-from r (Exactly g) begins exact e =
-      let passed = chosen (head-fits head && grids-fit g) e (λ is. never cc) in
+      let passed = chosen-first (head-fits head && grids-fit g) e (λ is. never cc) in
       let both = and-both (head-fits head) (grids-fit g) (passed .0) in
       let is : Good (as-request head g) ≡ Good r = passed .1 in
       let is′ : as-request head g ≡ r = cc in
@@ -163,7 +165,7 @@ module _ (file : List ℕ) where
 
   pub came : (r : Request) → parsed file ≡ Good r → Came r
   came r e =
-      let passed = chosen (has-head file) (sym (as-judged file) ∙ e) (λ is. never cc) in
+      let passed = chosen-first (has-head file) (sym (as-judged file) ∙ e) (λ is. never cc) in
       came-from r (grids-in (head .search) (fields-from file 24)) (passed .0) refl (passed .1)
 
   -- The tests that the head passed.
@@ -185,7 +187,7 @@ module _ (file : List ℕ) where
       let ends = fields-end (length file) 0 24 (drop 24 file) (let room = head-within file (c .begins) in omega (arith, length-drop 24 file)) in
       let inside = found-inside file (head .search) (fields-from file 24) g ends (c .exact) in
       let numbers = head-passed (c .fits) in
-      let small = all-small g (c .small) in
+      let small = fit-are-small g (c .small) in
       record {
         search-from = subst (λ (q : Request). 1 ≤ q .search) (sym (c .is)) (numbers .0);
         search-to = subst (λ (q : Request). q .search ≤ 8) (sym (c .is)) (numbers .1);

@@ -13,7 +13,7 @@ use Rattle.gridfile.specs.Request.{Grids, grids-of, same, by-tag}
 use Rattle.gridfile.specs.Lookups.{Sought, Content, Missing, field-at, Has, Found, Exactly, Breach, Next, has-of, then-next, next-grid, grids-in}
 use Rattle.gridfile.specs.declared.grids.Next.the-variants as next
 use Rattle.rules.proofs.Tests.{never}
-use Rattle.gridfile.proofs.Choices.{by-test, same-is, for-grids}
+use Rattle.gridfile.proofs.Choices.{by-cases, same-is, for-grids}
 use Rattle.gridfile.proofs.Places.{look, looked-for, some-left, none-left}
 
 contents : List Field → List Part
@@ -66,7 +66,7 @@ module _ (file : List ℕ) where
   nothing-more : (at : ℕ) (k : List Part → Found) → at ≤ length file → exactly [] k (fields-from file at) ≡ cond (eqb at (length file)) (k []) Breach
   unfolding same contents
   nothing-more at k within =
-      by-test (exactly [] k (fields-from file at) ≡ cond (eqb at (length file)) (k []) Breach) (eqb at (length file))
+      by-cases (exactly [] k (fields-from file at) ≡ cond (eqb at (length file)) (k []) Breach) (eqb at (length file))
       (λ e. let end = eqb-true at (length file) e in ap (λ (w : Fields). exactly [] k w) (none-left file at (omega arith)) ∙ sym (ap (λ (b : Bool). cond b (k []) Breach) e))
       (λ e. let apart = eqb-false at (length file) e in
       some-left file at (λ w. exactly [] k w ≡ Breach) (less apart) refl (too-many k) ∙ sym (ap (λ (b : Bool). cond b (k []) Breach) e))
@@ -127,7 +127,7 @@ module _ (file : List ℕ) where
   placed-exactly ts cut search e = refl
   placed-exactly ts (whole fields) search e =
       ap (λ (us : List ℕ). cond (same (tags fields) us) (Exactly (by-tag fields)) Breach) e
-      ∙ by-test (cond (same (tags fields) ts) (Exactly (by-tag fields)) Breach ≡ cond (same (tags fields) ts) (placed ts (contents fields)) Breach) (same (tags fields) ts)
+      ∙ by-cases (cond (same (tags fields) ts) (Exactly (by-tag fields)) Breach ≡ cond (same (tags fields) ts) (placed ts (contents fields)) Breach) (same (tags fields) ts)
       (λ same-tags. ap (λ (fs : List Field). cond (same (tags fields) ts) (Exactly (by-tag fs)) Breach)
       (sym (paired-back fields) ∙ ap (λ (us : List ℕ). paired us (contents fields)) (same-is (tags fields) ts same-tags)))
       (λ differ. ap (λ (b : Bool). cond b (Exactly (by-tag fields)) Breach) differ ∙ sym (ap (λ (b : Bool). cond b (placed ts (contents fields)) Breach) differ))

@@ -46,9 +46,9 @@ module _ {A : Type 0} where
       let e : suc i + length first ≡ i + suc (length first) = omega arith in
       sets-append first second (set l i a) (suc i) ∙ ap (λ (k : ℕ). sets (sets (set l i a) (suc i) first) k second) e
 
-  -- A run of several is stored.
-  pub more : {before now after all todo : List A} {from at : ℕ} (first rest : List A) (next : ℕ) → Left before from all now at todo → todo ≡ first ++ rest → after ≡ sets now at first → next ≡ at + length first → Left before from all after next rest
-  more {before} {now} {after} {all} {todo} {from} {at} first rest next left e stored e′ = record {
+  -- Several more are stored, as one run.
+  pub several-more : {before now after all todo : List A} {from at : ℕ} (first rest : List A) (next : ℕ) → Left before from all now at todo → todo ≡ first ++ rest → after ≡ sets now at first → next ≡ at + length first → Left before from all after next rest
+  several-more {before} {now} {after} {all} {todo} {from} {at} first rest next left e stored e′ = record {
     long = ap length stored ∙ length-sets now at first ∙ left .long;
     leads =
         ap (λ (l : List A). sets l next rest) stored
@@ -128,8 +128,8 @@ part-long file start count room = length-take-le count (drop start file) (omega 
 -- ---- fields
 
 -- Bytes stored one after the other are stored together.
-pub joined : {before between after : List ℕ} {at middle next : ℕ} (first second : List ℕ) → Stored first at before between middle → Stored second middle between after next → Stored (first ++ second) at before after next
-joined {before} {between} {after} {at} {middle} {next} first second one two =
+pub stored-together : {before between after : List ℕ} {at middle next : ℕ} (first second : List ℕ) → Stored first at before between middle → Stored second middle between after next → Stored (first ++ second) at before after next
+stored-together {before} {between} {after} {at} {middle} {next} first second one two =
     let total = length-append first second in
     let place = one .place in
     let place′ = two .place in
@@ -175,7 +175,7 @@ number-field-long tag count n =
 pub grid-stored : {before between after : List ℕ} {at middle next tag : ℕ} (grid : List Float)
     → Stored (field-head tag (4 * length grid)) at before between middle → Stored (float-bytes grid) middle between after next → Stored (grid-field tag grid) at before after next
 grid-stored {before} {between} {after} {at} {middle} {next} {tag} grid one two =
-    joined (field-head tag (length (float-bytes grid))) (float-bytes grid)
+    stored-together (field-head tag (length (float-bytes grid))) (float-bytes grid)
     (subst (λ (k : ℕ). Stored (field-head tag k) at before between middle) (sym (bits-long grid)) one) two
 
 pub grid-field-long : (tag : ℕ) (grid : List Float) → length (grid-field tag grid) ≡ 3 + 4 * length grid

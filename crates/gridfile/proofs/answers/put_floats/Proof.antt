@@ -5,7 +5,7 @@ use mathlib.Core.List.{_++_}
 use lib.ListN.{length, drop}
 use lib.Ieee.{nan}
 use Rattle.gridfile.specs.Answers.{little-endian, float-bytes}
-use Rattle.gridfile.proofs.Stores.{Left, at-first, more, at-last, next-bits, no-bits, bits-long, digits-long}
+use Rattle.gridfile.proofs.Stores.{Left, at-first, several-more, at-last, next-bits, no-bits, bits-long, digits-long}
 use borrow.Author.Needs.{needs}
 use native.Mathlib.Omega.{arith}
 use Rattle.gridfile.proofs.answers.put_floats.Statement.{statement}
@@ -52,7 +52,7 @@ loop-again c =
       omega arith,
       (
         omega arith,
-        more (little-endian 4 bits) (float-bytes (drop (i + 1) grid)) (c .before .before .put-number .result) (c .before .before .before .before .before .before .before .loop .inv .1 .1)
+        several-more (little-endian 4 bits) (float-bytes (drop (i + 1) grid)) (c .before .before .put-number .result) (c .before .before .before .before .before .before .before .loop .inv .1 .1)
             (next-bits grid i nan (search needs) ∙ ap (λ (k : ℕ). little-endian 4 k ++ float-bytes (drop (i + 1) grid)) (sym (c .before .before .before .bits-of .ensures)))
             (stored .held) (stored .place),
       ),

@@ -1,6 +1,6 @@
 -- `answers::put_number_field` meets its contract. Assumes nothing.
 use Rattle.gridfile.specs.Answers.{field-head, little-endian}
-use Rattle.gridfile.proofs.Stores.{joined, stored-length, head-long}
+use Rattle.gridfile.proofs.Stores.{stored-together, stored-length, head-long}
 use borrow.Author.Needs.{needs}
 use native.Mathlib.Omega.{arith}
 use Rattle.gridfile.proofs.answers.put_number_field.Statement.{statement}
@@ -22,7 +22,7 @@ same-length : tie.Need-same-length
 same-length c = search needs
 
 returns : tie.Need-returns
-returns c = let a = c .before .before .before .before .before .before .before .before .before .args in joined (field-head (a .tag) (a .count)) (little-endian (a .count) (a .number)) (c .before .before .before .before .before .before .put-field .ensures) (c .before .before .put-number .ensures)
+returns c = let a = c .before .before .before .before .before .before .before .before .before .args in stored-together (field-head (a .tag) (a .count)) (little-endian (a .count) (a .number)) (c .before .before .before .before .before .before .put-field .ensures) (c .before .before .put-number .ensures)
 
 pub put-number-field-spec : {M : Type 1} → statement M
 put-number-field-spec =

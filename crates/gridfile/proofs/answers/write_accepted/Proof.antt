@@ -1,7 +1,7 @@
 -- `answers::write_accepted` meets its contract. Assumes nothing.
 use mathlib.Core.List.{_++_}
 use Rattle.gridfile.specs.Answers.{number-field, grid-field}
-use Rattle.gridfile.proofs.Stores.{joined, written, grid-stored, stored-length, number-field-long, head-long, accepted-long}
+use Rattle.gridfile.proofs.Stores.{stored-together, written, grid-stored, stored-length, number-field-long, head-long, accepted-long}
 use Prim.Native.Nat.{_*_}
 use lib.ListN.{length}
 use borrow.Author.Needs.{needs}
@@ -63,8 +63,8 @@ returns c =
     let takes = number-field 0x12 8 (a .takes) in
     let long = accepted-long (a .takes) grid in
     written
-    (joined (status ++ takes) (grid-field 0x13 grid)
-    (joined status takes (c .before .before .before .before .before .before .before .before .before .before .before .before .before .before .put-number-field .ensures) (c .before .before .before .before .before .before .before .before .before .before .put-number-field2 .ensures))
+    (stored-together (status ++ takes) (grid-field 0x13 grid)
+    (stored-together status takes (c .before .before .before .before .before .before .before .before .before .before .before .before .before .before .put-number-field .ensures) (c .before .before .before .before .before .before .before .before .before .before .put-number-field2 .ensures))
     (grid-stored grid (c .before .before .before .before .before .before .put-field .ensures) (c .before .before .put-floats .ensures)))
     (omega (arith, c .before .before .before .before .before .before .before .before .before .before .before .before .before .before .before .before .before .before .pre))
 

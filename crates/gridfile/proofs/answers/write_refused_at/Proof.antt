@@ -1,6 +1,6 @@
 -- `answers::write_refused_at` meets its contract. Assumes nothing.
 use Rattle.gridfile.specs.Answers.{number-field}
-use Rattle.gridfile.proofs.Stores.{joined, written, stored-length, number-field-long, refused-at-long}
+use Rattle.gridfile.proofs.Stores.{stored-together, written, stored-length, number-field-long, refused-at-long}
 use borrow.Author.Needs.{needs}
 use native.Mathlib.Omega.{arith}
 use Rattle.gridfile.proofs.answers.write_refused_at.Statement.{statement}
@@ -24,7 +24,7 @@ returns : tie.Need-returns
 returns c =
     let a = c .before .before .before .before .before .before .before .before .before .args in
     let long = refused-at-long (a .status) (a .index) in
-    written (joined (number-field 0x10 1 (a .status)) (number-field 0x11 4 (a .index)) (c .before .before .before .before .before .before .put-number-field .ensures) (c .before .before .put-number-field2 .ensures)) (omega arith)
+    written (stored-together (number-field 0x10 1 (a .status)) (number-field 0x11 4 (a .index)) (c .before .before .before .before .before .before .put-number-field .ensures) (c .before .before .put-number-field2 .ensures)) (omega arith)
 
 pub write-refused-at-spec : {M : Type 1} → statement M
 write-refused-at-spec =

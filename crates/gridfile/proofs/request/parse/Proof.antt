@@ -3,14 +3,14 @@ use mathlib.Core.Path.{sym, ap, _∙_}
 use borrow.Author.Needs.{needs}
 use Rattle.gridfile.specs.Request.{Good}
 use Rattle.rules.proofs.Tests.{said, held, failed}
-use Rattle.gridfile.proofs.Heads.{Headed, Found-all, head-within, no-head, no-grids, unfit-head, unfit-grids, good}
+use Rattle.gridfile.proofs.Heads.{Headed, FoundAll, head-within, no-head, breached-grids, unfit-head, unfit-grids, good}
 use Rattle.gridfile.proofs.request.parse.Statement.{statement}
 use Rattle.gridfile.proofs.request.parse.Tie as tie
 
 headed : (c : tie.After-read-head) → Headed (c .before .before .before .before .args .file .now) (c .read-head .result)
 headed c = record { begins = held (c .before .before .has-head .ensures) (c .before .if1 .left); reads = c .read-head .ensures }
 
-all-there : (c : tie.After-known-told) → let r = c .before .before .before .before in Found-all (r .before .before .before .before .args .file .now) (r .read-head .result) (c .before .found .given .0 .0)
+all-there : (c : tie.After-known-told) → let r = c .before .before .before .before in FoundAll (r .before .before .before .before .args .file .now) (r .read-head .result) (c .before .found .given .0 .0)
 all-there c = record { headed = headed (c .before .before .before .before); exact = said (c .before .before .before .find-grids .ensures) (c .before .found .given .1) }
 
 has-head-requires : tie.Need-has-head-requires
@@ -32,7 +32,7 @@ enum-told : tie.Need-enum-told
 enum-told c = search needs
 
 returns-2 : tie.Need-returns-2
-returns-2 c = sym (no-grids (headed (c .before .before .before)) (said (c .before .before .find-grids .ensures) (c .enum-told .given .1)))
+returns-2 c = sym (breached-grids (headed (c .before .before .before)) (said (c .before .before .find-grids .ensures) (c .enum-told .given .1)))
 
 head-fits-requires : tie.Need-head-fits-requires
 head-fits-requires c κs = search needs

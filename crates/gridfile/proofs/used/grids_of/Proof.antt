@@ -5,7 +5,7 @@ use Prim.Native.Nat.{ℕ, _≤_}
 use Rattle.rules.specs.Sizes.{any}
 use Rattle.gridfile.specs.Request.{grids-of}
 use Rattle.gridfile.specs.Lookups.{has-of}
-use Rattle.gridfile.proofs.Choices.{of-three, no-grids}
+use Rattle.gridfile.proofs.Choices.{of-three, grids-of-no-search}
 use native.Mathlib.Omega.{arith}
 use Rattle.gridfile.proofs.used.grids_of.Statement.{statement}
 use Rattle.gridfile.proofs.used.grids_of.Tie as tie
@@ -42,11 +42,11 @@ returns-6 c =
 
 returns-7 : tie.Need-returns-7
 unfolding any
-returns-7 c = let rest = c .before .match .rest in ap has-of (sym (no-grids (c .before .before .args .search) (λ e. rest .0 .0 .0 .0 .1 e) (λ e. rest .0 .0 .0 .1 e) (λ e. rest .0 .0 .1 e) (λ e. rest .0 .1 e) (λ e. omega arith) (λ e. omega arith) (λ e. omega arith) (λ e. rest .1 e)))
+returns-7 c = let rest = c .before .match .rest in ap has-of (sym (grids-of-no-search (c .before .before .args .search) (λ e. rest .0 .0 .0 .0 .1 e) (λ e. rest .0 .0 .0 .1 e) (λ e. rest .0 .0 .1 e) (λ e. rest .0 .1 e) (λ e. omega arith) (λ e. omega arith) (λ e. omega arith) (λ e. rest .1 e)))
 
 returns-8 : tie.Need-returns-8
 unfolding any
-returns-8 c = let rest = c .before .before .match .rest in ap has-of (sym (no-grids (c .before .before .before .args .search) (λ e. rest .0 .0 .0 .0 .1 e) (λ e. rest .0 .0 .0 .1 e) (λ e. rest .0 .0 .1 e) (λ e. rest .0 .1 e) (λ e. omega arith) (λ e. omega arith) (λ e. omega arith) (λ e. rest .1 e)))
+returns-8 c = let rest = c .before .before .match .rest in ap has-of (sym (grids-of-no-search (c .before .before .before .args .search) (λ e. rest .0 .0 .0 .0 .1 e) (λ e. rest .0 .0 .0 .1 e) (λ e. rest .0 .0 .1 e) (λ e. rest .0 .1 e) (λ e. omega arith) (λ e. omega arith) (λ e. omega arith) (λ e. rest .1 e)))
 
 pub grids-of-spec : {M : Type 1} → statement M
 grids-of-spec =

@@ -5,7 +5,7 @@ use mathlib.Core.Bool.{true, or-true}
 use lib.Dec.{eqb}
 use Rattle.rules.specs.Sizes.{any}
 use Rattle.gridfile.specs.Request.{uses-cell-size}
-use Rattle.gridfile.proofs.Choices.{by-test}
+use Rattle.gridfile.proofs.Choices.{by-cases}
 use native.Mathlib.Omega.{arith}
 use Rattle.gridfile.proofs.used.uses_cell_size.Statement.{statement}
 use Rattle.gridfile.proofs.used.uses_cell_size.Tie as tie
@@ -14,7 +14,7 @@ returns : tie.Need-returns
 unfolding any
 returns c =
     let s = c .before .before .args .search in
-    by-test (true ≡ uses-cell-size s) (eqb s 1) (λ e. simp e) (λ ne. let apart = eqb-false s 1 ne in simp (eq-eqb s 2 (omega arith)) (simp or-true))
+    by-cases (true ≡ uses-cell-size s) (eqb s 1) (λ e. simp e) (λ ne. let apart = eqb-false s 1 ne in simp (eq-eqb s 2 (omega arith)) (simp or-true))
 
 returns-2 : tie.Need-returns-2
 unfolding any
