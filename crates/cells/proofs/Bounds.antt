@@ -1,7 +1,7 @@
 -- Sizes: what the tests on them say, and what is known of a size within the bounds. Assumes nothing.
 use mathlib.Core.Path.{_≡_, refl, sym, ap, _∙_, subst}
 use mathlib.Core.Bool.{Bool, true, false, _&&_, false≢true}
-use Prim.Native.Nat.{ℕ, suc, _*_, _^_, _≤_}
+use Prim.Native.Nat.{suc, _*_, _^_, _≤_}
 use native.Mathlib.Nat.{mul-le-mul, lt-of-le-of-lt, le-antisymm, le-refl}
 use native.Mathlib.Omega.{arith}
 use borrow.Author.Needs.{fits-under}
