@@ -88,13 +88,13 @@ module _ (size : Size) (u : ℕ) where
       let few = before .few in
       let one = at-most-one size u (getD offsets i []) in
       let so-far-is = before .found-is in
-      let found′-is : found′ ≡ length (neighbours size u (take (i + 1) offsets)) = counted ∙ rw (one-more size u i less, length-append, so-far-is) in
+      let found′-is : found′ ≡ length (neighbours size u (take (i + 1) offsets)) = counted ∙ rw (one-more size u offsets i less, length-append, so-far-is) in
       record {
         tried = omega arith;
         cells-are =
             stored
             ∙ ap (λ (l : List ℕ). sets l found here) (before .cells-are) ∙ ap (λ (k : ℕ). sets (padded so-far) k here) so-far-is
-            ∙ padded-more so-far here (omega arith) ∙ ap padded (sym (one-more size u i less));
+            ∙ padded-more so-far here (omega arith) ∙ ap padded (sym (one-more size u offsets i less));
         found-is = found′-is;
         few = omega arith;
         straight-is = recorded i (before .straight-is) found′-is at-four;

@@ -3,12 +3,11 @@ use mathlib.Core.Path.{_≡_, refl, sym, ap, _∙_}
 use mathlib.Core.Bool.{Bool, true, false, cond, _&&_}
 use mathlib.Core.List.{List, [], _∷_, _++_, append-nil, append-assoc}
 use Prim.Native.Nat.{ℕ, _+_, _≤_, _<_}
-use native.Mathlib.Numerals.{add-one}
 use native.Mathlib.Omega.{arith}
 use lib.IntN.{ℤ, pos, _+ℤ_}
 use lib.ListN.{length, getD, take, drop}
-use lib.Seq.{take-suc}
 use lib.Signed.{mag}
+use Rattle.fifo.proofs.Lists.{take-more}
 use Rattle.rules.specs.declared.Size.{Size}
 use Rattle.rules.specs.Cells.{offsets, index, row-of, col-of, within, neighbour, neighbours, straight-neighbours, diagonal-neighbours}
 use Rattle.cells.proofs.Edges.{row-part, col-part}
@@ -32,17 +31,14 @@ module _ (size : Size) (u : ℕ) where
   neighbours-split = neighbours-append (take 4 offsets) (drop 4 offsets)
 
   -- One offset more of a table adds the neighbour there.
-  pub one-more-of :
+  pub one-more :
       (table : List (List ℤ)) (i : ℕ) → i < length table
       → neighbours size u (take (i + 1) table) ≡ neighbours size u (take i table) ++ neighbour size u (getD table i [])
   unfolding neighbours
-  one-more-of table i less =
-      ap (λ (list : List (List ℤ)). neighbours size u list) (ap (λ (k : ℕ). take k table) (add-one i) ∙ take-suc table i [] less)
+  one-more table i less =
+      ap (λ (list : List (List ℤ)). neighbours size u list) (take-more table i [] less)
       ∙ neighbours-append (take i table) (getD table i [] ∷ [])
       ∙ ap (λ (l : List ℕ). neighbours size u (take i table) ++ l) (append-nil (neighbour size u (getD table i [])))
-
-  pub one-more : (i : ℕ) → i < 8 → neighbours size u (take (i + 1) offsets) ≡ neighbours size u (take i offsets) ++ neighbour size u (getD offsets i [])
-  one-more i less = one-more-of offsets i less
 
   pub at-most-one : (offset : List ℤ) → length (neighbour size u offset) ≤ 1
   unfolding neighbour

@@ -3,13 +3,14 @@ use mathlib.Core.Bool.{Bool, true, false, cond, _||_, or-true}
 use mathlib.Core.List.{List, [], _∷_, _++_, map, append-nil}
 use mathlib.Core.Logic.{_⊎_, inl, inr, ⊎-elim}
 use mathlib.Core.Path.{_≡_, refl, sym, ap, _∙_, subst}
-use Prim.Native.Nat.{ℕ, zero, suc, _<_, _≤_}
+use Prim.Native.Nat.{ℕ, zero, suc, _+_, _<_, _≤_}
 use native.Mathlib.Decide.{ℕ-discrete}
+use native.Mathlib.Numerals.{add-one}
 use native.Mathlib.Omega.{arith}
 use borrow.Author.Tests.{eqb-true, eq-eqb, ne-eqb}
 use lib.Dec.{T, eqb}
-use lib.ListN.{length, getD, set}
-use lib.Seq.{getD-set-same, getD-set-other}
+use lib.ListN.{length, getD, set, take}
+use lib.Seq.{take-suc, getD-set-same, getD-set-other}
 use Rattle.fifo.specs.Machine.{among, joined}
 use Rattle.fifo.specs.Walk.{In, NoDup}
 
@@ -46,6 +47,10 @@ pub getD-any : {A : Type 0} (l : List A) (i : ℕ) (x y : A) → i < length l �
 getD-any [] i x y inside = absurd (omega arith)
 getD-any (a ∷ l) zero x y inside = refl
 getD-any (a ∷ l) (suc i) x y inside = getD-any l i x y (omega arith)
+
+-- One entry more of the first ones.
+pub take-more : {A : Type 0} (l : List A) (k : ℕ) (d : A) → k < length l → take (k + 1) l ≡ take k l ++ getD l k d ∷ []
+take-more l k d less = ap (λ n. take n l) (add-one k) ∙ take-suc l k d less
 
 -- To prove something of what a list holds at a place once a value is set, prove it of that value and of what it held at the other places.
 pub after-set :

@@ -7,7 +7,8 @@ use lib.Ieee.{Float}
 use lib.ListN.{length, getD, take}
 use Rattle.cells.specs.Storing.{stay, on, back}
 use Rattle.cells.proofs.Edges.{AllSteps, none, more}
-use Rattle.cells.proofs.NeighbourLists.{one-more-of}
+use Rattle.cells.proofs.NeighbourLists.{one-more}
+use Rattle.fifo.proofs.Lists.{take-more}
 use Rattle.rules.specs.declared.Size.{Size}
 use Rattle.rules.specs.Sizes.{count}
 use Rattle.rules.specs.Cells.{neighbour, neighbours}
@@ -15,7 +16,6 @@ use Rattle.rules.specs.Sums.{adjacent-offsets, adjoin, adjacent-cells}
 use Rattle.rules.proofs.Neighbours.{neighbour-inside}
 use Rattle.reach.specs.Listing.{Listing}
 use Rattle.reach.specs.Adjacent.{Adding, Adjoins, Trying, Fitting, Beside, AddedAdjacent}
-use Rattle.reach.proofs.Reading.{take-more}
 use Rattle.reach.proofs.Listings.{listing-cells}
 use Rattle.reach.proofs.Sums.{added-none}
 use Rattle.reach.proofs.Adjoining.{adjoins-none, adjoins-on}
@@ -51,7 +51,7 @@ module _ {values distances : List Float} {budget : Float} {met₀ : List ℕ} {s
       → Adjoins values distances budget (neighbours size u (take i adjacent-offsets)) met₀ sum₀ met sum
       → Adjoins values distances budget vs met sum met′ sum′
       → Adjoins values distances budget (neighbours size u (take (i + 1) adjacent-offsets)) met₀ sum₀ met′ sum′
-  around-more size u i less is before then = rw (one-more-of size u adjacent-offsets i less, ← is) (adjoins-on before then)
+  around-more size u i less is before then = rw (one-more size u adjacent-offsets i less, ← is) (adjoins-on before then)
 
   pub around-none : (size : Size) (u : ℕ) → Adjoins values distances budget (neighbours size u (take 0 adjacent-offsets)) met₀ sum₀ met₀ sum₀
   unfolding neighbours

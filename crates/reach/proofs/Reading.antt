@@ -1,18 +1,12 @@
--- The first entries of a slice, one after the other: an entry more, and what stands among them. Assumes nothing.
-use mathlib.Core.List.{List, [], _∷_, _++_}
+-- The first entries of a slice: what stands among them, and how many there are. Assumes nothing.
+use mathlib.Core.List.{List, [], _∷_}
 use mathlib.Core.Logic.{inl, inr}
-use mathlib.Core.Path.{_≡_, refl, ap, _∙_}
-use Prim.Native.Nat.{ℕ, zero, suc, _+_, _≤_, _<_, suc-le-suc}
+use mathlib.Core.Path.{_≡_, refl}
+use Prim.Native.Nat.{ℕ, zero, suc, _≤_, _<_, suc-le-suc}
 use native.Mathlib.Nat.{not-suc-le-zero, le-of-suc-le-suc}
-use native.Mathlib.Numerals.{add-one}
 use native.Mathlib.Omega.{arith}
 use lib.ListN.{length, getD, take}
-use lib.Seq.{take-suc}
 use Rattle.fifo.specs.Walk.{In}
-
--- One entry more.
-pub take-more : {A : Type 0} (l : List A) (k : ℕ) (d : A) → k < length l → take (k + 1) l ≡ take k l ++ getD l k d ∷ []
-take-more l k d less = ap (λ n. take n l) (add-one k) ∙ take-suc l k d less
 
 -- An entry before the end of a part stands in it.
 pub in-take : (l : List ℕ) (n k : ℕ) → k < n → n ≤ length l → In (getD l k 0) (take n l)

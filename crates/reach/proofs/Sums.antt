@@ -6,8 +6,8 @@ use Prim.Native.Nat.{ℕ, _+_, _<_}
 use lib.Ieee.{Float, nan, binary32, add}
 use lib.ListN.{length, getD, take}
 use Rattle.binary32.specs.Nodata.{nodata}
+use Rattle.fifo.proofs.Lists.{take-more}
 use Rattle.rules.specs.Sums.{add-value, add-values}
-use Rattle.reach.proofs.Reading.{take-more}
 
 -- One cell: nodata is passed over.
 module _ (values : List Float) (sum : Float) (c : ℕ) {answer : Bool} (says : answer ≡ nodata (getD values c nan)) where

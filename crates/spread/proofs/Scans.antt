@@ -2,16 +2,16 @@
 use mathlib.Core.Bool.{Bool, true, false, cond}
 use mathlib.Core.List.{List, [], _∷_, _++_, append-nil, append-assoc}
 use mathlib.Core.Path.{_≡_, refl, sym, ap, _∙_, subst}
-use Prim.Native.Nat.{ℕ, suc, _+_, _-_, _≤_, _<_}
-use native.Mathlib.Numerals.{add-one}
+use Prim.Native.Nat.{ℕ, _+_, _-_, _≤_, _<_}
 use native.Mathlib.Omega.{arith}
 use borrow.Author.Tests.{leb-true, leb-false}
 use lib.Dec.{eqb, leb}
 use lib.ListN.{length, getD, take, drop, length-drop}
-use lib.Seq.{take-suc, getD-drop}
+use lib.Seq.{getD-drop}
 use Rattle.binary32.specs.Steps.{straight, diagonal}
 use Rattle.fifo.specs.Machine.{Net, State, scan}
 use Rattle.fifo.proofs.Induction.{scan-append}
+use Rattle.fifo.proofs.Lists.{take-more}
 use Rattle.rules.specs.Cells.{keep}
 use Rattle.rules.specs.Values.{Carried}
 use Rattle.rules.specs.Sizes.{grid}
@@ -163,10 +163,10 @@ part-none cells start = let none : start - start ≡ 0 = omega arith in ap (λ n
 
 part-last : (cells : List ℕ) (start k : ℕ) → start ≤ k → k < length cells → part cells start (k + 1) ≡ part cells start k ++ getD cells k 0 ∷ []
 part-last cells start k from below =
-    let one-more : k + 1 - start ≡ suc (k - start) = omega arith in
+    let one-more : k + 1 - start ≡ k - start + 1 = omega arith in
     let back : start + (k - start) ≡ k = omega arith in
     ap (λ n. take n (drop start cells)) one-more
-    ∙ take-suc (drop start cells) (k - start) 0 (rw length-drop (omega arith))
+    ∙ take-more (drop start cells) (k - start) 0 (rw length-drop (omega arith))
     ∙ ap (λ c. part cells start k ++ c ∷ []) (getD-drop start cells (k - start) 0 ∙ ap (λ n. getD cells n 0) back)
 
 -- The straight ones among the first k, where those before `middle` are straight.
@@ -184,7 +184,7 @@ module _ (search : Search) (ground : Terrain) (u : ℕ) (cells : List ℕ) where
       → listed-steps search ground u cells (k + 1) (k + 1) ≡ listed-steps search ground u cells k k ++ straight-steps search ground u (getD cells k 0 ∷ [])
   straight-more k below =
       all-straight (k + 1)
-      ∙ ap (straight-steps search ground u) (ap (λ n. take n cells) (add-one k) ∙ take-suc cells k 0 below)
+      ∙ ap (straight-steps search ground u) (take-more cells k 0 below)
       ∙ steps-of-both search ground u false (take k cells) (getD cells k 0 ∷ [])
       ∙ ap (λ l. l ++ straight-steps search ground u (getD cells k 0 ∷ [])) (sym (all-straight k))
 
