@@ -7,18 +7,19 @@ use Prim.Native.Nat.{ℕ, zero, suc, _+_, _-_, _*_, _/_, _%_, _≤_, _<_}
 use native.Mathlib.Nat.{lt-of-lt-of-le, mul-zero, mod-lt, div-lt-iff-lt-mul}
 use native.Mathlib.Omega.{arith}
 use lib.Arith.{digits-lt}
-use lib.Dec.{T, leb, ltb, ltb→lt, lt→ltb, le→leb}
+use lib.Dec.{T, leb, ltb, lt→ltb, le→leb}
 use lib.IntN.{ℤ, pos, negsuc, natAbs, _+ℤ_, _*ℤ_}
 use lib.ListN.{getD}
 use lib.Signed.{mag, leZ, ltZ, nonNeg}
 use mir.Syntax.{w32}
 use mir.Val.{Fits, SFits, toZ}
-use mir.Facts.{toZ-ofZ, and-yes, yes-and}
+use mir.Facts.{toZ-ofZ, yes-and}
 use Rattle.rules.specs.declared.Size.{Size}
 use Rattle.rules.specs.Sizes.{cells-max, count}
 use Rattle.rules.specs.Cells.{offsets, index, row-of, col-of, within}
 use Rattle.cells.specs.Neighbours.{CellOf, Place, place-of}
 use Rattle.cells.specs.Storing.{Step, stay, on, back}
+use Rattle.rules.proofs.Neighbours.{within-below}
 use Rattle.rules.proofs.Tests.{and-then, and-not}
 use Rattle.cells.proofs.Bounds.{Side, Bounded, bounded, read, side-read, side-same, cast-is, product-fits, product-read}
 
@@ -30,10 +31,8 @@ pub record Inside (end k : ℤ) : Type 0 where
   pub less : mag k < mag end
 
 pub inside : (end k : ℤ) → T (within end k) → Inside end k
-inside (pos e) (pos n) between = record { is-mag = refl; less = ltb→lt n e (and-yes (leb 0 n) (ltb n e) between .1) }
-inside (negsuc e) (pos n) between = absurd (and-yes (leb 0 n) false between .1)
-inside (pos e) (negsuc n) between = absurd between
-inside (negsuc e) (negsuc n) between = absurd between
+inside end (pos n) between = record { is-mag = refl; less = within-below end (pos n) between }
+inside end (negsuc n) between = absurd between
 
 -- A natural number below a side is between the edges.
 pub between : {end : ℤ} (n : ℕ) → Side end → n < mag end → T (within end (pos n))

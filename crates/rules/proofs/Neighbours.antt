@@ -20,11 +20,11 @@ use Rattle.rules.specs.Cells.{offsets, index, row-of, col-of, within, ne
 
 -- ---- inside the grid
 
-within-below : (end k : ℤ) → T (within end k) → mag k < mag end
+-- What is between the edges is below the end.
+pub within-below : (end k : ℤ) → T (within end k) → mag k < mag end
 within-below (pos b) (pos a) t = ltb→lt a b (and-r (leb 0 a) (ltb a b) t)
-within-below (pos b) (negsuc a) t = absurd t
 within-below (negsuc b) (pos a) t = absurd (and-r (leb 0 a) false t)
-within-below (negsuc b) (negsuc a) t = absurd t
+within-below end (negsuc a) t = absurd t
 
 cell-below : (size : Size) (row col : ℤ) → T (within (size .rows) row && within (size .cols) col) → index size (mag row) (mag col) < count size
 cell-below size row col t =
