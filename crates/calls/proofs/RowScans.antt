@@ -3,17 +3,13 @@ use mathlib.Core.Path.{_≡_, ap, _∙_, subst}
 use mathlib.Core.Bool.{Bool, true, false}
 use mathlib.Core.List.{List}
 use Prim.Native.Nat.{ℕ, _+_, _*_, _≤_, _<_}
-use native.Mathlib.Nat.{le-antisymm, suc-mul, zero-mul, add-zero}
-use native.Mathlib.Numerals.{add-one}
+use native.Mathlib.Nat.{le-antisymm, zero-mul, add-zero}
 use native.Mathlib.Omega.{arith}
 use lib.Arith.{digits-lt}
 use lib.ListN.{length, getD}
 use Rattle.rules.specs.Sizes.{any, first-index}
+use Rattle.cells.proofs.Interior.{row-below}
 use Rattle.calls.proofs.Scans.{NoneBelow, none-yet, none-more, none-all, one-passes, first-passes}
-
--- The row after a row starts where that row ends.
-next-row : (row cols : ℕ) → (row + 1) * cols ≡ row * cols + cols
-next-row row cols = ap (λ (k : ℕ). k * cols) (add-one row) ∙ suc-mul row cols
 
 module _ {A : Type 0} (test : A → Bool) (xs : List A) (rows cols : ℕ) where
   -- Before a row: none of the rows above has a cell that passes.
@@ -53,7 +49,7 @@ module _ {A : Type 0} (test : A → Bool) (xs : List A) (rows cols : ℕ) where
       in-rows = let below = at .in-rows in omega arith;
       none =
           let within = at .in-cols in
-          let next = next-row row cols in
+          let next = row-below row cols in
           subst (λ (k : ℕ). NoneBelow test xs k) (omega arith) (at .none);
     }
 

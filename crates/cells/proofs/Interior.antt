@@ -131,7 +131,8 @@ no-step n = ap pos (add-zero n)
 row-above : (row cols : ℕ) → 0 < row → row * cols ≡ (row - 1) * cols + cols
 row-above row cols some = let is : row ≡ suc (row - 1) = omega arith in ap (λ (n : ℕ). n * cols) is ∙ suc-mul (row - 1) cols
 
-row-below : (row cols : ℕ) → (row + 1) * cols ≡ row * cols + cols
+-- The row below a row starts where that row ends.
+pub row-below : (row cols : ℕ) → (row + 1) * cols ≡ row * cols + cols
 row-below row cols = ap (λ (n : ℕ). n * cols) (add-one row) ∙ suc-mul row cols
 
 module _ (size : Size) (u : ℕ) (interior : Interior size u) where
