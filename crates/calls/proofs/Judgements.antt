@@ -6,12 +6,9 @@ use Prim.Native.Nat.{ℕ}
 use lib.Ieee.{Float}
 use Rattle.rules.specs.declared.Size.{Size}
 use Rattle.rules.specs.Sizes.{Refusal, number-at, Judged, passes, stops, Lent, or-else, first-that-holds, any, first-index, shape, below-zero, negative-time}
-use Rattle.rules.proofs.Refusals.{not-held, or-else-append}
+use Rattle.rules.proofs.Refusals.{Tests, or-else-append}
 use Rattle.calls.specs.Answer as code
 use Rattle.calls.specs.Answer.{judged-as, Passes, Stops}
-
-abbrev Tests : Type 0
-Tests = List (Bool × Refusal)
 
 -- ---- the first that holds
 
@@ -31,12 +28,6 @@ module _ {holds : Bool} {refusal : Refusal} {more : Tests} where
   pub first-fails : {judged : Judged} → holds ≡ false → Comes more judged → Comes ((holds, refusal) ∷ more) judged
   unfolding first-that-holds
   first-fails e later = record { is = rw e (later .is) }
-
-  -- Where the tests pass, the first fails and the others pass.
-  pub passed : Comes ((holds, refusal) ∷ more) passes → (holds ≡ false) × Comes more passes
-  passed comes =
-      let (fails, others) = not-held (holds, refusal) more (sym (comes .is)) in
-      (fails, record { is = sym others })
 
 -- Two lists come to two judgements, and both lists to the first that refuses.
 pub in-order : {tests more : Tests} {first later judged : Judged} → judged ≡ or-else first later → Comes tests first → Comes more later → Comes (tests ++ more) judged
@@ -69,10 +60,6 @@ module _ (size : Size) (others : List Size) (inputs : List ℕ) (lent : Lent) (m
 
     pub goes-on : {judged : Judged} → shaped ≡ Passes → Comes more judged → Comes (shape size others inputs lent more) judged
     goes-on is later = record { is = later .is ∙ sym (shaped-then ∙ ap (λ (s : code.Judged). or-else (judged-as s) (first-that-holds more)) is) }
-
-    -- Sizes and lengths pass by themselves.
-    pub shape-passes : shaped ≡ Passes → Comes (shape size others inputs lent []) passes
-    shape-passes is = record { is = sym (ap judged-as is) ∙ means }
 
 -- ---- the limit and the times
 

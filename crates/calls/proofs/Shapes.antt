@@ -7,11 +7,13 @@ use borrow.Author.Tests.{not-false, eqb-true}
 use lib.Dec.{T, eqb}
 use lib.IntN.{ℤ}
 use Rattle.rules.specs.declared.Size.{Size}
-use Rattle.rules.specs.Sizes.{Refusal, passes, Lent, any, shape, in-bounds, same-number, same-size, count, differs, other-than}
+use Rattle.rules.specs.Sizes.{passes, Lent, first-that-holds, any, shape, in-bounds, same-number, same-size, count, differs, other-than}
 use Rattle.fifo.proofs.Lists.{holds}
+use Rattle.rules.proofs.Refusals.{Tests, shape-not-held}
 use Rattle.rules.proofs.Tests.{and-both, neither}
 use Rattle.cells.proofs.Bounds.{same-number-is}
-use Rattle.calls.proofs.Judgements.{Comes, passed}
+use Rattle.calls.specs.Answer as code
+use Rattle.calls.specs.Answer.{judged-as, Passes}
 
 -- Each of a list is a.
 abbrev pub AllAre : {A : Type 0} → A → List A → Type 0
@@ -36,17 +38,20 @@ same-size-is a b e =
     let both = and-both (same-number (a .rows) (b .rows)) (same-number (a .cols) (b .cols)) (not-false (same-size a b) e) in
     sym (ap (λ (k : ℤ). record { rows = k; cols = a .cols }) (same-number-is (a .rows) (b .rows) (both .0)) ∙ ap (λ (k : ℤ). record { rows = b .rows; cols = k }) (same-number-is (a .cols) (b .cols) (both .1)))
 
--- A call that passes the tests has its shape.
-module _ (size : Size) (others : List Size) (inputs : List ℕ) (lent : Lent) (more : List (Bool × Refusal)) (comes : Comes (shape size others inputs lent more) passes) where
-  pub shaped : Shaped size others inputs lent
-  unfolding shape any
-  shaped =
-      let after-1 = passed comes in
-      let after-2 = passed (after-1 .1) in
-      let lengths = neither _ _ (passed (after-2 .1) .0) in
+module _ {size : Size} {others : List Size} {inputs : List ℕ} {lent : Lent} where
+  -- A call that passes the tests has its shape.
+  pub shaped : (more : Tests) → first-that-holds (shape size others inputs lent more) ≡ passes → Shaped size others inputs lent
+  unfolding any
+  shaped more pass =
+      let (bounds, sizes, lengths, later) = shape-not-held size others inputs lent more pass in
+      let (long, queue-long) = neither _ _ lengths in
       record {
-        within = holds (not-false (in-bounds size) (neither _ _ (after-1 .0) .0));
-        alike = all-are (differs size) (same-size-is size) others (after-2 .0);
-        long = all-are (other-than (count size)) (λ l e. eqb-true l (count size) (not-false (eqb l (count size)) e)) (inputs ++ lent .lengths) (lengths .0);
-        queue-long = eqb-true (lent .queue-length) (suc (count size)) (not-false (eqb (lent .queue-length) (suc (count size))) (lengths .1));
+        within = holds (not-false (in-bounds size) (neither _ _ bounds .0));
+        alike = all-are (differs size) (same-size-is size) others sizes;
+        long = all-are (other-than (count size)) (λ l e. eqb-true l (count size) (not-false (eqb l (count size)) e)) (inputs ++ lent .lengths) long;
+        queue-long = eqb-true (lent .queue-length) (suc (count size)) (not-false (eqb (lent .queue-length) (suc (count size))) queue-long);
       }
+
+  -- So has one of which the code says that it passes those on sizes and lengths.
+  pub judged-shaped : {judged : code.Judged} → judged-as judged ≡ first-that-holds (shape size others inputs lent []) → judged ≡ Passes → Shaped size others inputs lent
+  judged-shaped means is = shaped [] (sym means ∙ ap judged-as is)

@@ -97,7 +97,7 @@ module _ (size : Size) (targets : List ℕ) (spacing : Spacing) where
       → Searches plain-search (grids targets targets unread unread) answer marks queue
   unfolding refusals-1 plain
   plain-searches answer marks queue held pass =
-      let known = shaped _ _ _ _ _ (record { is = sym pass }) in
+      let known = shaped _ pass in
       let number = accepted-1 (grid size targets) spacing (lent (length answer ∷ length marks ∷ []) (length queue)) pass in
       can-search {search = plain-search} refl (known .within) (known .long .0) (λ reads. known .long .0) (λ reads. absurd (false≢true reads)) (known .long .1 .0) (known .long .1 .1 .0) (known .queue-long)
       (laws-within (plain-laws (grid size targets) (spacing .limit) held number))
@@ -123,7 +123,7 @@ module _ (size : Size) (targets obstacles : List ℕ) (spacing : Spacing) (diago
       → Searches obstacles-search (grids targets obstacles unread unread) answer marks queue
   unfolding refusals-2 with-obstacles
   obstacles-searches obstacles-size answer marks queue pass =
-      let known = shaped _ _ _ _ _ (record { is = sym pass }) in
+      let known = shaped _ pass in
       can-search {search = obstacles-search} refl (known .within) (known .long .0) (λ reads. known .long .1 .0) (λ reads. absurd (false≢true reads)) (known .long .1 .1 .0) (known .long .1 .1 .1 .0) (known .queue-long)
       (laws-within (obstacles-laws (grid size targets) (grid size obstacles) diagonals))
 
@@ -134,7 +134,7 @@ module _ (size : Size) (targets obstacles : List ℕ) (spacing : Spacing) (diago
       (scaled (spacing .«cell_size») (finish (with-obstacles (grid size targets) (grid obstacles-size obstacles) diagonals) .labels))
   unfolding searched refusals-2
   obstacles-searched obstacles-size lent pass =
-      let known = shaped _ _ _ _ _ (record { is = sym pass }) in
+      let known = shaped _ pass in
       let agrees = obstacles-agrees obstacles-search (grids targets obstacles unread unread) diagonals refl in
       rw (known .alike .0, agrees .takes-at-end, agrees .labels-at-end)
 
@@ -150,7 +150,7 @@ module _ (size : Size) (targets : List ℕ) (times-size : Size) (times : List Fl
       → Searches travel-search (grids targets targets times unread) answer marks queue
   unfolding refusals-3 travel
   travel-searches answer marks queue times-held held pass =
-      let known = shaped _ _ _ _ _ (record { is = sym pass }) in
+      let known = shaped _ pass in
       let (number, none-negative) = accepted-3 (grid size targets) (grid times-size times) cap (lent (length answer ∷ length marks ∷ []) (length queue)) pass in
       can-search {search = travel-search} refl (known .within) (known .long .0) (λ reads. absurd (false≢true reads)) (λ reads. known .long .1 .0)
       (known .long .1 .1 .0) (known .long .1 .1 .1 .0) (known .queue-long)
@@ -162,6 +162,6 @@ module _ (size : Size) (targets : List ℕ) (times-size : Size) (times : List Fl
       ≡ accepted (takes-of (travel (grid size targets) (grid times-size times) cap)) (finish (travel (grid size targets) (grid times-size times) cap) .labels)
   unfolding found refusals-3
   travel-found lent pass =
-      let known = shaped _ _ _ _ _ (record { is = sym pass }) in
+      let known = shaped _ pass in
       let agrees = half-sum-agrees travel-search (grids targets targets times unread) refl in
       rw (known .alike .0, agrees .takes-at-end, agrees .labels-at-end)

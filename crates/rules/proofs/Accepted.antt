@@ -1,5 +1,5 @@
 -- What is known of the inputs of a call that no test refuses. Assumes nothing.
-use mathlib.Core.Bool.{Bool, false, not}
+use mathlib.Core.Bool.{false, not}
 use mathlib.Core.List.{List}
 use mathlib.Core.Path.{_≡_}
 use Prim.Native.Nat.{ℕ}
@@ -8,22 +8,20 @@ use lib.Dec.{T}
 use lib.Ieee.{Float, isNan, le}
 use Rattle.binary32.specs.Numbers.{plus-zero}
 use Rattle.fifo.proofs.Lists.{holds}
-use Rattle.rules.specs.Sizes.{Size, Grid, Spacing, Lent, Refusal, passes, in-bounds, out-of-bounds, any, first-that-holds, shape, below-zero}
+use Rattle.rules.specs.Sizes.{Size, Grid, Spacing, Lent, passes, in-bounds, out-of-bounds, any, first-that-holds, shape, below-zero}
 use Rattle.rules.specs.Distances.{refusals-1, refusals-3}
 use Rattle.rules.specs.Values.{refusals-5, refusals-6}
 use Rattle.rules.specs.Sums.{refusals-7, refusals-8}
 use Rattle.rules.proofs.Tests.{neither}
-use Rattle.rules.proofs.Refusals.{not-held}
+use Rattle.rules.proofs.Refusals.{Tests, not-held, shape-not-held}
 
 -- After the tests of the shape the first grid is in bounds, so are the others, and the search's own tests are left.
 after-shape :
-    (size : Size) (others : List Size) (inputs : List ℕ) (lent : Lent) (more : List (Bool × Refusal)) → first-that-holds (shape size others inputs lent more) ≡ passes
+    (size : Size) (others : List Size) (inputs : List ℕ) (lent : Lent) (more : Tests) → first-that-holds (shape size others inputs lent more) ≡ passes
     → T (in-bounds size) × (any out-of-bounds others ≡ false) × (first-that-holds more ≡ passes)
-unfolding shape any
+unfolding any
 after-shape size others inputs lent more e =
-    let (bounds, e) = not-held _ _ e in
-    let (sizes, e) = not-held _ _ e in
-    let (lengths, e) = not-held _ _ e in
+    let (bounds, sizes, lengths, e) = shape-not-held size others inputs lent more e in
     let (first, rest) = neither (not (in-bounds size)) (any out-of-bounds others) bounds in
     (holds (not-false (in-bounds size) first), rest, e)
 

@@ -2,10 +2,12 @@
 use mathlib.Core.Bool.{Bool, true, false, cond}
 use mathlib.Core.List.{List, [], _∷_, _++_}
 use mathlib.Core.Path.{_≡_, refl, ap, _∙_}
-use Rattle.rules.specs.Sizes.{Refusal, Judged, passes, stops, or-else, first-that-holds}
+use Prim.Native.Nat.{ℕ}
+use Rattle.rules.specs.Sizes.{Size, Lent, Refusal, Judged, passes, stops, or-else, first-that-holds, any, out-of-bounds, differs, wrong-length, shape}
 use Rattle.rules.proofs.Tests.{never}
 
-abbrev Tests : Type 0
+-- Tests in their order, each with the refusal that it gives.
+abbrev pub Tests : Type 0
 Tests = List (Bool × Refusal)
 
 -- If no test of a list holds, the first does not, and none of the others.
@@ -16,6 +18,17 @@ not-held (holds, refusal) tests = go holds
     go : (b : Bool) → cond b (stops refusal) (first-that-holds tests) ≡ passes → (b ≡ false) × (first-that-holds tests ≡ passes)
     go true e = never cc
     go false e = (refl, e)
+
+-- If none of the shape and of what follows holds, those on sizes and lengths do not, and none of the search's own.
+pub shape-not-held :
+    (size : Size) (others : List Size) (inputs : List ℕ) (lent : Lent) (more : Tests) → first-that-holds (shape size others inputs lent more) ≡ passes
+    → (any out-of-bounds (size ∷ others) ≡ false) × (any (differs size) others ≡ false) × (wrong-length size inputs lent ≡ false) × (first-that-holds more ≡ passes)
+unfolding shape
+shape-not-held size others inputs lent more e =
+    let (bounds, e) = not-held _ _ e in
+    let (sizes, e) = not-held _ _ e in
+    let (lengths, e) = not-held _ _ e in
+    (bounds, sizes, lengths, e)
 
 or-else-first : (holds : Bool) (refusal : Refusal) (both first later : Judged) → both ≡ or-else first later → cond holds (stops refusal) both ≡ or-else (cond holds (stops refusal) first) later
 or-else-first true refusal both first later e = refl

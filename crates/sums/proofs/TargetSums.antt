@@ -2,7 +2,7 @@
 use mathlib.Core.Bool.{false}
 use mathlib.Core.List.{List, [], _∷_}
 use mathlib.Core.Logic.{⊎-elim}
-use mathlib.Core.Path.{_≡_, sym, ap, _∙_}
+use mathlib.Core.Path.{_≡_, ap, _∙_}
 use Prim.Native.Nat.{ℕ, _*_, zero-le}
 use lib.Dec.{T}
 use lib.Ieee.{Float, nan, binary32, fits}
@@ -116,12 +116,12 @@ module _ (size : Size) (times : List Float) (amounts-size : Size) (amounts : Lis
       → Sums size times amounts limit answer distances marks added queue
   unfolding refusals-8
   sums-ask answer distances marks added queue times-held limit-held pass =
-      let known = shaped _ _ _ _ _ (record { is = sym pass }) in
+      let known = shaped _ pass in
       let (bounds, number, above, none-negative) = accepted-8 (grid size times) (grid amounts-size amounts) limit _ pass in
       record {
         asked = record {
           ways = record {
-            bounds = bounds;
+            bounds = known .within;
             times-length = known .long .0;
             within = λ start.
                 amount-within (grid size times) limit start (record { held = times-held; none-negative = none-negative }) (record { held = limit-held; not-nan = number; above-zero = above });
@@ -143,5 +143,5 @@ module _ (size : Size) (times : List Float) (amounts-size : Size) (amounts : Lis
       → summed size times amounts limit ≡ found-8 (grid size times) (grid amounts-size amounts) limit
   unfolding summed refusals-8
   sums-are lent pass =
-      let known = shaped _ _ _ _ _ (record { is = sym pass }) in
+      let known = shaped _ pass in
       rw (known .alike .0)

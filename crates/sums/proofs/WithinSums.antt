@@ -123,11 +123,11 @@ module _ (size : Size) (mask : List ℕ) (times-size : Size) (times : List Float
       → Given size mask times values answer distances marks listed adjacent queue
   unfolding refusals-7 from-mask-cell
   mask-given answer distances marks listed adjacent queue times-held pass =
-      let known = shaped _ _ _ _ _ (record { is = sym pass }) in
+      let known = shaped _ pass in
       let (bounds, times-bounds, number, above, none-negative) = accepted-7 (grid size mask) (grid times-size times) (grid values-size values) limit _ pass in
       record {
         ways = record {
-          bounds = bounds;
+          bounds = known .within;
           times-length = known .long .1 .0;
           within = λ start. laws-within (mask-cell-laws (grid size times) start (record { held = times-held; none-negative = none-negative }));
         };
@@ -150,5 +150,5 @@ module _ (size : Size) (mask : List ℕ) (times-size : Size) (times : List Float
       ≡ found-7 (grid size mask) (grid times-size times) (grid values-size values) limit include-adjacent
   unfolding mask-outcome refusals-7
   mask-outcome-is include-adjacent lent pass =
-      let known = shaped _ _ _ _ _ (record { is = sym pass }) in
+      let known = shaped _ pass in
       rw (known .alike .0, known .alike .1 .0)

@@ -102,7 +102,7 @@ module _ (size : Size) (targets : List ℕ) (values-size : Size) (values : List 
       → Searches closest-search (grids targets targets values values) answer distances marks queue
   unfolding refusals-4 closest
   closest-searches answer distances marks queue pass =
-      let known = shaped _ _ _ _ _ (record { is = sym pass }) in
+      let known = shaped _ pass in
       can-search {search = closest-search} refl refl (known .within) (known .long .0) (λ reads. known .long .1 .0) (known .long .1 .0)
       (known .long .1 .1 .0) (known .long .1 .1 .1 .0) (known .long .1 .1 .1 .1 .0) (known .queue-long)
       (laws-within (closest-laws (grid size targets) (grid size values)))
@@ -114,7 +114,7 @@ module _ (size : Size) (targets : List ℕ) (values-size : Size) (values : List 
       ≡ accepted (takes-of (closest (grid size targets) (grid values-size values))) (values-of (finish (closest (grid size targets) (grid values-size values)) .labels))
   unfolding searched refusals-4
   closest-searched lent pass =
-      let known = shaped _ _ _ _ _ (record { is = sym pass }) in
+      let known = shaped _ pass in
       rw (known .alike .0, closest-same closest-search (grids targets targets values values) refl)
 
 -- ---- searches 5 and 6
@@ -158,11 +158,11 @@ module _ (size : Size) (targets : List ℕ) (times-size : Size) (times : List Fl
     unfolding refusals-6
     searches-6 times-held held =
         let (number, none-negative) = accepted-6 (grid size targets) (grid times-size times) (grid values-size values) limit (lent-of answer distances marks queue) pass in
-        by-time-searches (shaped _ _ _ _ _ (record { is = sym pass })) refl times-held held number none-negative
+        by-time-searches (shaped _ pass) refl times-held held number none-negative
 
     pub searched-6 : searched by-time-search (grids targets targets times values) ≡ by-time-outcome
     unfolding refusals-6
-    searched-6 = by-time-searched (shaped _ _ _ _ _ (record { is = sym pass }))
+    searched-6 = by-time-searched (shaped _ pass)
 
 -- From the tests of 5, where the limit is infinity.
 module _
@@ -176,7 +176,7 @@ module _
     unfolding refusals-5
     searches-5 times-held =
         let none-negative = accepted-5 (grid size targets) (grid times-size times) (grid values-size values) (lent-of answer distances marks queue) pass in
-        by-time-searches size targets times-size times values-size values limit (shaped _ _ _ _ _ (record { is = sym pass })) refl times-held
+        by-time-searches size targets times-size times values-size values limit (shaped _ pass) refl times-held
         (rw unlimited (inf-fits binary32 false)) (rw unlimited infinity-not-nan) none-negative
 
     pub searched-5 :
@@ -184,5 +184,5 @@ module _
         ≡ by-time-outcome size targets times-size times values-size values infinity
     unfolding refusals-5
     searched-5 =
-        by-time-searched size targets times-size times values-size values limit (shaped _ _ _ _ _ (record { is = sym pass }))
+        by-time-searched size targets times-size times values-size values limit (shaped _ pass)
         ∙ ap (by-time-outcome size targets times-size times values-size values) unlimited

@@ -1,10 +1,9 @@
 -- `judge_sums::judge_7` meets its contract. Assumes nothing.
-use mathlib.Core.List.{[]}
 use mathlib.Core.Path.{refl}
 use borrow.Author.Needs.{needs}
 use Rattle.rules.specs.Sums.{refusals-7}
-use Rattle.calls.proofs.Judgements.{in-order, stops-there, goes-on, shape-passes}
-use Rattle.calls.proofs.Shapes.{shaped}
+use Rattle.calls.proofs.Judgements.{in-order, stops-there, goes-on}
+use Rattle.calls.proofs.Shapes.{judged-shaped}
 use Rattle.calls.proofs.judge_sums.judge_7.Statement.{statement}
 use Rattle.calls.proofs.judge_sums.judge_7.Tie as tie
 
@@ -30,7 +29,7 @@ judge-budget-requires c κs = search needs
 judge-limit-and-times-requires : tie.Need-judge-limit-and-times-requires
 judge-limit-and-times-requires c κs =
     let passes = c .before in
-    let known = shaped _ _ _ _ _ (shape-passes _ _ _ _ [] _ (passes .before .before .judge-three .ensures) (passes .enum-told .given .1)) in
+    let known = judged-shaped (passes .before .before .judge-three .ensures) (passes .enum-told .given .1) in
     (known .within, known .long .1 .0)
 
 returns-2 : tie.Need-returns-2

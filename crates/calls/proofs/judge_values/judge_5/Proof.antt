@@ -1,9 +1,8 @@
 -- `judge_values::judge_5` meets its contract. Assumes nothing.
-use mathlib.Core.List.{[]}
 use borrow.Author.Needs.{needs}
 use Rattle.rules.specs.Values.{refusals-5}
-use Rattle.calls.proofs.Judgements.{stops-there, goes-on, shape-passes}
-use Rattle.calls.proofs.Shapes.{shaped}
+use Rattle.calls.proofs.Judgements.{stops-there, goes-on}
+use Rattle.calls.proofs.Shapes.{judged-shaped}
 use Rattle.calls.proofs.judge_values.judge_5.Statement.{statement}
 use Rattle.calls.proofs.judge_values.judge_5.Tie as tie
 
@@ -25,7 +24,7 @@ returns c = stops-there _ _ _ _ _ _ (c .before .before .judge-three .ensures) (c
 
 first-negative-requires : tie.Need-first-negative-requires
 first-negative-requires c κs =
-    let known = shaped _ _ _ _ _ (shape-passes _ _ _ _ [] _ (c .before .before .judge-three .ensures) (c .enum-told .given .1)) in
+    let known = judged-shaped (c .before .before .judge-three .ensures) (c .enum-told .given .1) in
     (known .within, known .long .1 .0)
 
 returns-2 : tie.Need-returns-2
