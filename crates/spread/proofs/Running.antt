@@ -1,9 +1,9 @@
 -- The whole run: the buffers hold what the machine's run holds, take by take, until nothing waits. Assumes nothing.
 use mathlib.Core.Bool.{Bool, true, false, not}
 use mathlib.Core.List.{List, [], _∷_}
-use mathlib.Core.Logic.{inl, inr, ⊎-elim}
+use mathlib.Core.Logic.{inr, ⊎-elim}
 use mathlib.Core.Path.{_≡_, refl, sym, ap, _∙_, subst}
-use Prim.Native.Nat.{ℕ, suc, _+_, _-_, _*_, _≤_, _<_}
+use Prim.Native.Nat.{ℕ, suc, _+_, _-_, _*_, _<_}
 use native.Mathlib.Nat.{mul-le-mul, lt-irrefl, lt-of-le-of-lt}
 use native.Mathlib.Omega.{arith}
 use borrow.Author.Tests.{not-true, not-false}
@@ -29,7 +29,7 @@ use Rattle.spread.specs.Buffers.{Buffers, Good, Holds}
 use Rattle.spread.specs.Steps.{Terrain, terrain}
 use Rattle.spread.specs.First.{net-on}
 use Rattle.spread.specs.Begin.{BeganTo}
-use Rattle.spread.specs.Loop.{Setting, Taking, TookCell, Ready, TookUpTo, Running, Ran}
+use Rattle.spread.specs.Loop.{Setting, Taking, TookCell, Ready, Passed, TookUpTo, Running, Ran}
 pub use Rattle.spread.specs.Loop.{Turn}
 use Rattle.spread.specs.Promise.{grids, Spreads, Spread}
 use Rattle.spread.proofs.Lengths.{carried-length-kept}
@@ -101,11 +101,12 @@ module _ {search : Search} {ground : Terrain} {before : Buffers} where
       next-turn {after} took = record {
         good = took .good;
         taken = λ net ready.
-            let waiting = turn .taken net ready .holds .waiting ∙ first .2 in
+            let (u, ws, is-head) = first in
+            let waiting = turn .taken net ready .holds .waiting ∙ is-head in
             record {
               holds =
-                  subst (λ s. Holds search s after) (sym (run-last net r (initial net) (first .0) (first .1) waiting))
-                  (took .holds net (ready .follows) (run net r (initial net)) (turn .taken net ready .holds) (first .0) (first .1) waiting);
+                  subst (λ s. Holds search s after) (sym (run-last net r (initial net) u ws waiting))
+                  (took .holds net (ready .follows) (run net r (initial net)) (turn .taken net ready .holds) u ws waiting);
               all = more net ready;
             };
         kept = λ no-value. took .kept no-value ∙ turn .kept no-value;
@@ -120,13 +121,6 @@ module _ {search : Search} {ground : Terrain} {before : Buffers} where
     ran nothing = ended-turn turn (none-left (not-false answer nothing))
 
 -- ---- some takes, one or all
-
--- What holds before each turn of the loop.
-pub record Passed (search : Search) (ground : Terrain) (most : ℕ) (before b : Buffers) (took : TakenCell) (r : ℕ) : Type 0 where
-  pub few : r ≤ most
-  pub turn : Turn search ground before b r
-  pub untouched : r ≡ 0 → b ≡ before
-  pub one : r ≡ 1 → TookCell search ground before b took
 
 module _ {search : Search} {ground : Terrain} {most : ℕ} {before : Buffers} where
   pub none-passed : {took : TakenCell} → Good search before → Passed search ground most before before took 0
@@ -145,26 +139,17 @@ module _ {search : Search} {ground : Terrain} {most : ℕ} {before : Buffers} wh
     }
 
     pub passed-empty : answer ≡ true → TookUpTo search ground most before b (record { took = took; takes = r })
-    passed-empty nothing = record {
-      turn = passed .turn;
-      few = passed .few;
-      no-more = inr (none-left (passed .turn) empty nothing);
-      untouched = passed .untouched;
-      one = passed .one;
-    }
-
-  pub passed-most : {b : Buffers} {took : TakenCell} {r : ℕ} → Passed search ground most before b took r → r ≡ most → TookUpTo search ground most before b (record { took = took; takes = r })
-  passed-most passed all = record { turn = passed .turn; few = passed .few; no-more = inl all; untouched = passed .untouched; one = passed .one }
+    passed-empty nothing = record { passed = passed; no-more = inr (none-left (passed .turn) empty nothing) }
 
 -- One take of one that is to be made is it. Proof: none was made only if nothing waited.
 pub one-taken :
     {search : Search} {ground : Terrain} {before after : Buffers} {some : TakenSome}
     → Taking search ground before → TookUpTo search ground 1 before after some → TookCell search ground before after (some .took)
-one-taken {before = before} {after} {some} takes took = ⊎-elim (took .one) (λ none-waits. ⊎-elim (λ none-yet. absurd (waited none-waits none-yet)) (λ some-yet. took .one (let few = took .few in omega (arith, some-yet))) (same-or-not (some .takes) 0)) (took .no-more)
+one-taken {before = before} {after} {some} takes took = ⊎-elim (took .passed .one) (λ none-waits. ⊎-elim (λ none-yet. absurd (waited none-waits none-yet)) (λ some-yet. took .passed .one (let few = took .passed .few in omega (arith, some-yet))) (same-or-not (some .takes) 0)) (took .no-more)
   where
     waited : contents (after .queue) (after .ring) ≡ [] → some .takes ≡ 0 → ⊥
     waited none-waits none-yet =
-        let none-before : contents (before .queue) (before .ring) ≡ [] = subst (λ b. contents (b .queue) (b .ring) ≡ []) (took .untouched none-yet) none-waits in
+        let none-before : contents (before .queue) (before .ring) ≡ [] = subst (λ b. contents (b .queue) (b .ring) ≡ []) (took .passed .untouched none-yet) none-waits in
         let long = takes .some in
         let short : length (contents (before .queue) (before .ring)) ≡ 0 = ap length none-before in
         omega arith
@@ -175,11 +160,11 @@ pub all-taken :
     → (net : Net Carried) × Ready search ground net before → TookUpTo search ground most before after some
     → Ran search ground before (after .distances) (after .carried) (after .marks) (after .queue) (some .takes)
 all-taken {search} {ground} {before} {after} {some} {most} square (net, ready) took =
-    ended-turn (took .turn) (⊎-elim (λ all. ⊎-elim (λ none-waits. none-waits) (one-more all) (empty-or-not (contents (after .queue) (after .ring)))) (λ none-waits. none-waits) (took .no-more))
+    ended-turn (took .passed .turn) (⊎-elim (λ all. ⊎-elim (λ none-waits. none-waits) (one-more all) (empty-or-not (contents (after .queue) (after .ring)))) (λ none-waits. none-waits) (took .no-more))
   where
     one-more : some .takes ≡ most → (u : ℕ) × (ws : List ℕ) × (contents (after .queue) (after .ring) ≡ u ∷ ws) → contents (after .queue) (after .ring) ≡ []
     one-more all (u, ws, first) =
-        let made = takes-last net (some .takes) (initial net) u ws (took .turn .taken net ready .holds .waiting ∙ first) in
+        let made = takes-last net (some .takes) (initial net) u ws (took .passed .turn .taken net ready .holds .waiting ∙ first) in
         let bound = ready .within (some .takes + 1) in
         absurd (lt-irrefl 0 (omega arith))
 

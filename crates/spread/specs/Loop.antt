@@ -126,13 +126,17 @@ pub record TakingSome (search : Search) (ground : Terrain) (b : Buffers) : Type 
   pub good : Good search b
   pub setting : Setting search ground
 
--- So many were taken, `most` or until nothing waited; where one was, that is its take.
+-- r were taken, no more than `most`; where none was, nothing changed, and where one was, that is its take.
+pub record Passed (search : Search) (ground : Terrain) (most : ℕ) (before after : Buffers) (took : TakenCell) (r : ℕ) : Type 0 where
+  pub turn : Turn search ground before after r
+  pub few : r ≤ most
+  pub untouched : r ≡ 0 → after ≡ before
+  pub one : r ≡ 1 → TookCell search ground before after took
+
+-- So many were taken, `most` or until nothing waited.
 pub record TookUpTo (search : Search) (ground : Terrain) (most : ℕ) (before after : Buffers) (some : TakenSome) : Type 0 where
-  pub turn : Turn search ground before after (some .takes)
-  pub few : some .takes ≤ most
+  pub passed : Passed search ground most before after (some .took) (some .takes)
   pub no-more : (some .takes ≡ most) ⊎ (contents (after .queue) (after .ring) ≡ [])
-  pub untouched : some .takes ≡ 0 → after ≡ before
-  pub one : some .takes ≡ 1 → TookCell search ground before after (some .took)
 
 -- The loop is to run: there is a net that they are ready for.
 pub record Running (search : Search) (ground : Terrain) (b : Buffers) : Type 0 where

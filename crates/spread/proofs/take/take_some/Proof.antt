@@ -1,10 +1,12 @@
 -- `take::take_some` meets its contract. Before each turn so many cells were taken. Assumes nothing.
+use mathlib.Core.Logic.{inl}
 use Prim.Native.Nat.{_-_}
 use native.Mathlib.Omega.{arith}
 use Rattle.spread.specs.Steps.{terrain}
 use Rattle.spread.specs.Buffers.{buffers}
 use Rattle.spread.proofs.Lengths.{same-distances, same-carried, same-marks, same-queue}
-use Rattle.spread.proofs.Running.{Passed, none-passed, some-passed, more-passed, passed-empty, passed-most}
+use Rattle.spread.specs.Loop.{Passed}
+use Rattle.spread.proofs.Running.{none-passed, some-passed, more-passed, passed-empty}
 use Rattle.spread.proofs.take.take_some.Statement.{statement}
 use Rattle.spread.proofs.take.take_some.Tie as tie
 
@@ -62,7 +64,7 @@ same-length-8 : tie.Need-same-length-8 Inv-loop μ-loop
 same-length-8 c = same-queue (c .before .before .before .before .before .before .before .before .pre .good) (c .before .loop .inv .turn .good)
 
 returns-2 : tie.Need-returns-2 Inv-loop μ-loop
-returns-2 c = let few = c .before .loop .inv .few in let past = c .loop-test .left in passed-most (c .before .loop .inv) (omega arith)
+returns-2 c = let few = c .before .loop .inv .few in let past = c .loop-test .left in record { passed = c .before .loop .inv; no-more = inl (omega arith) }
 
 pub take-some-spec : {M : Type 1} → statement M
 take-some-spec =
