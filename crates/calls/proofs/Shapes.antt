@@ -16,22 +16,22 @@ use Rattle.calls.specs.Answer as code
 use Rattle.calls.specs.Answer.{judged-as, Passes}
 
 -- Each of a list is a.
-abbrev pub AllAre : {A : Type 0} → A → List A → Type 0
-AllAre a [] = Unit {0}
-AllAre a (b ∷ rest) = (b ≡ a) × AllAre a rest
+abbrev pub AllEqual : {A : Type 0} → A → List A → Type 0
+AllEqual a [] = Unit {0}
+AllEqual a (b ∷ rest) = (b ≡ a) × AllEqual a rest
 
 -- The size is within the bounds, the other grids have it too, and every slice has its length.
 pub record Shaped (size : Size) (others : List Size) (inputs : List ℕ) (lent : Lent) : Type 0 where
   pub within : T (in-bounds size)
-  pub alike : AllAre size others
-  pub long : AllAre (count size) (inputs ++ lent .lengths)
+  pub alike : AllEqual size others
+  pub long : AllEqual (count size) (inputs ++ lent .lengths)
   pub queue-long : lent .queue-length ≡ suc (count size)
 
 -- Where no test finds another than a, all are a.
-all-are : {A : Type 0} {a : A} (test : A → Bool) → ((b : A) → test b ≡ false → b ≡ a) → (xs : List A) → any test xs ≡ false → AllAre a xs
+all-equal : {A : Type 0} {a : A} (test : A → Bool) → ((b : A) → test b ≡ false → b ≡ a) → (xs : List A) → any test xs ≡ false → AllEqual a xs
 unfolding any
-all-are test is [] none = tt
-all-are test is (b ∷ xs) none = let parts = neither (test b) (any test xs) none in (is b (parts .0), all-are test is xs (parts .1))
+all-equal test is [] none = tt
+all-equal test is (b ∷ xs) none = let parts = neither (test b) (any test xs) none in (is b (parts .0), all-equal test is xs (parts .1))
 
 same-size-is : (a b : Size) → differs a b ≡ false → b ≡ a
 same-size-is a b e =
@@ -47,8 +47,8 @@ module _ {size : Size} {others : List Size} {inputs : List ℕ} {lent : Lent} wh
       let (long, queue-long) = neither _ _ lengths in
       record {
         within = holds (not-false (in-bounds size) (neither _ _ bounds .0));
-        alike = all-are (differs size) (same-size-is size) others sizes;
-        long = all-are (other-than (count size)) (λ l e. eqb-true l (count size) (not-false (eqb l (count size)) e)) (inputs ++ lent .lengths) long;
+        alike = all-equal (differs size) (same-size-is size) others sizes;
+        long = all-equal (other-than (count size)) (λ l e. eqb-true l (count size) (not-false (eqb l (count size)) e)) (inputs ++ lent .lengths) long;
         queue-long = eqb-true (lent .queue-length) (suc (count size)) (not-false (eqb (lent .queue-length) (suc (count size))) queue-long);
       }
 

@@ -78,12 +78,12 @@ module _
     origin-starts says = rw (eq-eqb origin origin refl) (ap not (sym says))
 
     -- The cell waits: its time has data.
-    pub began-waiting :
+    pub origin-waits :
         origin < length filled → {answer : Bool} → answer ≡ nodata (getD times origin nan) → answer ≡ false
         → {marks′ queue′ : List ℕ} {ring′ : Ring} → Joined origin cleared queue ring marks′ queue′ ring′
         → BeganFrom origin cap times distances marks queue (set filled origin plus-zero) marks′ queue′ ring′
     unfolding joined among
-    began-waiting below says has-data {marks′} {queue′} {ring′} joins =
+    origin-waits below says has-data {marks′} {queue′} {ring′} joins =
         let in-grid : origin < (length distances) = rw filled-long at below in
         let same : length cleared ≡ (length distances) = cleared-long ∙ begins .marks-length in
         record {

@@ -74,15 +74,15 @@ module _ {search : Search} {ground : Terrain} {before : Buffers} where
 
     -- The loop's test is that the ring is not empty.
     module _ (something : not answer ≡ true) where
-      pub first : (u : ℕ) × (ws : List ℕ) × (contents (b .queue) (b .ring) ≡ u ∷ ws)
-      first = ⊎-elim (λ nothing. absurd (true-or-false (told ∙ ap none nothing) (not-true answer something))) (λ some. some) (empty-or-not (contents (b .queue) (b .ring)))
+      pub head-waits : (u : ℕ) × (ws : List ℕ) × (contents (b .queue) (b .ring) ≡ u ∷ ws)
+      head-waits = ⊎-elim (λ nothing. absurd (true-or-false (told ∙ ap none nothing) (not-true answer something))) (λ some. some) (empty-or-not (contents (b .queue) (b .ring)))
 
       pub turn-takes : Setting search ground → Taking search ground b
-      turn-takes setting = record { good = turn .good; setting = setting; some = rw (first .2) (omega arith) }
+      turn-takes setting = record { good = turn .good; setting = setting; some = rw (head-waits .2) (omega arith) }
 
       -- The machine has something to take too, so that a take more is made.
       more : (net : Net Carried) → Ready search ground net before → takes net (r + 1) (initial net) ≡ r + 1
-      more net ready = takes-last net r (initial net) (first .0) (first .1) (turn .taken net ready .holds .waiting ∙ first .2)
+      more net ready = takes-last net r (initial net) (head-waits .0) (head-waits .1) (turn .taken net ready .holds .waiting ∙ head-waits .2)
 
       -- So the bound on the takes is not met yet: one more is counted in 64 bits, where the square fits, and the loop's measure falls.
       pub take-counted :
@@ -101,7 +101,7 @@ module _ {search : Search} {ground : Terrain} {before : Buffers} where
       next-turn {after} took = record {
         good = took .good;
         taken = λ net ready.
-            let (u, ws, is-head) = first in
+            let (u, ws, is-head) = head-waits in
             let waiting = turn .taken net ready .holds .waiting ∙ is-head in
             record {
               holds =

@@ -17,7 +17,7 @@ use Rattle.spread.specs.Steps.{Terrain}
 use Rattle.spread.specs.Buffers.{Buffers}
 use Rattle.spread.specs.Loop.{taken-at, TookCell, Ready}
 use Rattle.spread.proofs.Labels.{label-held}
-use Rattle.spread.proofs.Running.{Turn, first}
+use Rattle.spread.proofs.Running.{Turn, head-waits}
 
 pub none-taken : (net : Net Carried) → taken-at net 0 ≡ []
 none-taken net = ap (map (λ taken. (taken .0, taken .1 .0))) (trace-zero net (initial net))
@@ -29,7 +29,7 @@ pub next-taken :
     (empty : SaysEmpty (b .ring) answer) (something : not answer ≡ true) {after : Buffers} {took : TakenCell} → TookCell search ground b after took
     → (net : Net Carried) → Ready search ground net before → taken-at net (r + 1) ≡ taken-at net r ++ (took .cell, took .distance) ∷ []
 next-taken {search} {b = b} {r} turn empty something {took = took} takes net ready =
-    let (u, ws, is-head) = first turn empty something in
+    let (u, ws, is-head) = head-waits turn empty something in
     let held = turn .taken net ready .holds in
     let same : u ≡ took .cell = sym (takes .head u ws is-head) in
     let seen : ℕ × Carried → ℕ × Float = λ taken. (taken .0, taken .1 .0) in

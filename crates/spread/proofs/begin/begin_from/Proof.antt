@@ -1,6 +1,6 @@
 -- `begin::begin_from` meets its contract. Assumes nothing.
 use borrow.Author.Tests.{not-true, not-false}
-use Rattle.spread.proofs.BeginningFrom.{origin-joins, began-waiting, began-idle, began-nowhere}
+use Rattle.spread.proofs.BeginningFrom.{origin-joins, origin-waits, began-idle, began-nowhere}
 use borrow.Author.Needs.{needs}
 use Rattle.spread.proofs.begin.begin_from.Statement.{statement}
 use Rattle.spread.proofs.begin.begin_from.Tie as tie
@@ -44,7 +44,7 @@ same-length-3 c = search needs
 returns : tie.Need-returns
 returns c =
     let s = c .before .before .before .before .before .before .before .before .before .before .before .before .before .before .before .before .before .before .before .before .before .before .before .before in
-    began-waiting (s .args .cap) (s .pre) (c .before .before .before .before .before .before .before .before .before .before .before .before .before .before .before .before .before .before .fill-floats .ensures) (c .before .before .before .before .before .before .before .before .before .before .before .before .before .before .fill-bytes .ensures) (c .before .before .before .before .before .before .before .before .before .before .before .new .ensures) (c .before .before .before .before .before .before .before .before .before .before .if1 .taken) (c .before .before .before .before .before .before .before .before .is-nodata .ensures) (not-true (c .before .before .before .before .before .before .before .before .is-nodata .result) (c .before .before .before .before .before .before .before .if2 .taken)) (c .before .before .before .before .wait .ensures)
+    origin-waits (s .args .cap) (s .pre) (c .before .before .before .before .before .before .before .before .before .before .before .before .before .before .before .before .before .before .fill-floats .ensures) (c .before .before .before .before .before .before .before .before .before .before .before .before .before .before .fill-bytes .ensures) (c .before .before .before .before .before .before .before .before .before .before .before .new .ensures) (c .before .before .before .before .before .before .before .before .before .before .if1 .taken) (c .before .before .before .before .before .before .before .before .is-nodata .ensures) (not-true (c .before .before .before .before .before .before .before .before .is-nodata .result) (c .before .before .before .before .before .before .before .if2 .taken)) (c .before .before .before .before .wait .ensures)
 
 same-length-4 : tie.Need-same-length-4
 same-length-4 c = search needs
