@@ -154,11 +154,11 @@ more =
     (outcome-3 (row (1 ∷ [])) (row (minus-one ∷ [])) nan (record { lengths = 1 ∷ 1 ∷ []; queue-length = 1 }), refusal (number 3)) ∷
     (outcome-3 (row (1 ∷ [])) (row (inf true ∷ [])) nan (lent 1 1), refusal (number 5)) ∷
     (outcome-3 (row (1 ∷ 0 ∷ 0 ∷ [])) (row (nan ∷ inf true ∷ inf true ∷ [])) (inf true) (lent 3 1), refusal (number-at 6 1)) ∷
-    -- of 4: 1, 2, 3
+    -- of 4: 1, 2, 3, whose grids are accepted where every slice has its length
     (outcome-4 (sized (pos 32768) (pos 1) []) (row []) (lent 0 2), refusal (number 1)) ∷
     (outcome-4 (row (1 ∷ [])) (row []) (lent 1 2), refusal (number 2)) ∷
-    (outcome-4 (row (1 ∷ [])) (row (nan ∷ [])) (lent 1 0), takes-and-answer 1 (nan ∷ [])) ∷
     (outcome-4 (row (1 ∷ [])) (row (nan ∷ [])) (lent 0 2), refusal (number 3)) ∷
+    (outcome-4 (row (1 ∷ [])) (row (nan ∷ [])) (lent 1 2), takes-and-answer 1 (nan ∷ [])) ∷
     -- of 5: 1, 2, 3, 6
     (outcome-5 (row []) (row (minus-one ∷ [])) (sized (pos 32768) (pos 0) []) (lent 0 2), refusal (number 1)) ∷
     (outcome-5 (row (1 ∷ [])) (row (minus-one ∷ [])) (row []) (lent 1 2), refusal (number 2)) ∷
