@@ -1,4 +1,4 @@
--- `travel::value_at_closest_less_than_travel_target` meets its contract. Assumes nothing.
+-- `less_than::value_at_closest_less_than_travel_target` meets its contract. Assumes nothing.
 use denote.Ref.{now}
 use Rattle.rules.specs.Values.{outcome-6}
 use Rattle.calls.proofs.Untouched.{quiet-6}
@@ -6,10 +6,10 @@ use Rattle.calls.proofs.Promises.{refuses-none, promised-searched}
 use Rattle.values.specs.Promise.{PromisedValues}
 use Rattle.values.proofs.Searching.{searches-6, searched-6, values-refused}
 use borrow.Author.Needs.{needs}
-use Rattle.values.proofs.travel.value_at_closest_less_than_travel_target.Statement.{
+use Rattle.values.proofs.less_than.value_at_closest_less_than_travel_target.Statement.{
   statement,
 }
-use Rattle.values.proofs.travel.value_at_closest_less_than_travel_target.Tie as tie
+use Rattle.values.proofs.less_than.value_at_closest_less_than_travel_target.Tie as tie
 
 slice-aggregate-judge-6 : tie.Need-slice-aggregate-judge-6
 slice-aggregate-judge-6 c = search needs
