@@ -8,6 +8,7 @@ use case::{Case, Grid, Search};
 use haul::raw;
 use lent::judged;
 use model::{Lengths, had, right_lengths};
+use oracle::Build;
 
 const SIDES: [i32; 16] =
     [i32::MIN, i32::MIN + 1, -32_768, -1, 0, 1, 2, 4, 32, 1024, 1025, 32_767, 32_768, 65_535, 65_536, i32::MAX];
@@ -193,18 +194,33 @@ fn times_and_values() {
     assert!([0, 6, 7].iter().all(|&status: &usize| seen[status] > 0), "{seen:?}");
 }
 
-/// `haul_answer`: no input, long ones, and outputs that are too short, for which 0 is told.
-#[test]
-fn files() {
+/// `haul_answer` writes the answer to the front of an output of this length and nothing else; where the output is shorter
+/// than the longest answer it writes nothing, and tells 0.
+fn answers(input: &[u8], answer: &[u8], length: usize) {
     const DIRT: u8 = 0xA5;
+    let mut output = vec![DIRT; 16 + length + 16];
+    let written = if length < raw::ANSWER_MAX { &[] } else { answer };
+    assert_eq!(raw::answer(input, &mut output[16..16 + length]) as usize, written.len());
+    assert_eq!(&output[16..16 + written.len()], written);
+    let rest = output[..16].iter().chain(&output[16 + written.len()..]);
+    assert!(rest.into_iter().all(|&byte| byte == DIRT), "an input of {} bytes, {length} for it", input.len());
+}
+
+/// No input, and long ones, that are no files.
+#[test]
+fn no_files() {
     for input in [0, 1, 12_321, 12_322, 70_000, 1 << 20].map(|length| vec![1; length]) {
         for length in [0, 1, 3, raw::ANSWER_MAX - 1, raw::ANSWER_MAX, raw::ANSWER_MAX + 1, 100_000] {
-            let mut output = vec![DIRT; 16 + length + 16];
-            let written: &[u8] = if length < raw::ANSWER_MAX { &[] } else { &[0x10, 1, 0, 8] };
-            assert_eq!(raw::answer(&input, &mut output[16..16 + length]) as usize, written.len());
-            assert_eq!(&output[16..16 + written.len()], written);
-            let rest = output[..16].iter().chain(&output[16 + written.len()..]);
-            assert!(rest.into_iter().all(|&byte| byte == DIRT), "an input of {} bytes, {length} for it", input.len());
+            answers(&input, &[0x10, 1, 0, 8], length);
         }
     }
+}
+
+/// A file with a short answer, for which there is every length from none to more than enough.
+#[test]
+fn a_file() {
+    let input = include_bytes!("../../../whole-case.grid");
+    let answer = oracle::answer_file(input, Build::Unchanged);
+    assert_eq!(answer.len(), 34);
+    (0..raw::ANSWER_MAX + 100).for_each(|length| answers(input, &answer, length));
 }
