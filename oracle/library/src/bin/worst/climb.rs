@@ -16,7 +16,7 @@ pub fn climbed(side: usize, takes: impl Fn(&Ground) -> u64) -> Ground {
 /// Changes one or two cells at a time, and keeps what does not lower the takes.
 fn climb(side: usize, random: &mut Random, takes: impl Fn(&Ground) -> u64) -> (u64, Ground) {
     let times = (0..side * side).map(|_| random.pick(&TIMES)).collect();
-    let mut ground = Ground { side, times, start: 0 };
+    let mut ground = Ground { side, times, targets: vec![0] };
     let mut height = takes(&ground);
     for _ in 0..CHANGES {
         let mut other = ground.clone();
@@ -35,11 +35,11 @@ fn climb(side: usize, random: &mut Random, takes: impl Fn(&Ground) -> u64) -> (u
 /// The small ground again and again, side by side.
 pub fn tiled(small: &Ground, side: usize) -> Ground {
     let time = |at: usize| small.times[at / side % small.side * small.side + at % side % small.side];
-    Ground { side, times: (0..side * side).map(time).collect(), start: small.start }
+    Ground { side, times: (0..side * side).map(time).collect(), targets: vec![0] }
 }
 
 /// Each cell of the small ground as a square of cells.
 pub fn stretched(small: &Ground, side: usize) -> Ground {
     let time = |at: usize| small.times[at / side * small.side / side * small.side + at % side * small.side / side];
-    Ground { side, times: (0..side * side).map(time).collect(), start: 0 }
+    Ground { side, times: (0..side * side).map(time).collect(), targets: vec![0] }
 }

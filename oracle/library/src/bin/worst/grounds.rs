@@ -1,25 +1,27 @@
-//! Families of square grids of times, by their side, with the cell from which the search starts.
+//! Families of square grids of times, by their side, with the cells from which the search starts.
 use cases::random::Random;
 
-/// Times of a square of cells, and the one cell that is a target.
+/// Times of a square of cells, and the cells that are targets.
 #[derive(Clone)]
 pub struct Ground {
     pub side: usize,
     pub times: Vec<f32>,
-    pub start: usize,
+    pub targets: Vec<usize>,
 }
 
 /// A ground for each side.
 pub type Family = fn(usize) -> Ground;
 
-pub const FAMILIES: [(&str, Family); 7] = [
+pub const FAMILIES: [(&str, Family); 9] = [
     ("even", even),
     ("zero", zero),
     ("drawn", drawn),
+    ("scattered targets", scattered_targets),
     ("spiral", spiral),
     ("spiral with falling walls", falling_spiral),
     ("late fronts", late_fronts),
     ("ribbon and pool", ribbon_and_pool),
+    ("loops and pool", loops_and_pool),
 ];
 
 const BARRED: f32 = f32::NAN;
@@ -28,16 +30,11 @@ const HUGE: f32 = 1024.0;
 
 impl Ground {
     fn filled(side: usize, time: f32) -> Ground {
-        Ground { side, times: vec![time; side * side], start: 0 }
+        Ground { side, times: vec![time; side * side], targets: vec![0] }
     }
 
     fn set(&mut self, (row, col): Place, time: f32) {
         self.times[row * self.side + col] = time;
-    }
-
-    /// The cells that may be entered.
-    pub fn open(&self) -> usize {
-        self.times.iter().filter(|time| !time.is_nan()).count()
     }
 }
 
@@ -56,7 +53,13 @@ fn zero(side: usize) -> Ground {
 fn drawn(side: usize) -> Ground {
     let random = &mut Random::new(1, side as u64);
     let time = |_| random.below(1 << 24) as f32 / 1_677_721.6;
-    Ground { side, times: (0..side * side).map(time).collect(), start: 0 }
+    Ground { side, times: (0..side * side).map(time).collect(), targets: vec![0] }
+}
+
+/// The drawn ground, with one cell in a hundred a target.
+fn scattered_targets(side: usize) -> Ground {
+    let random = &mut Random::new(2, side as u64);
+    Ground { targets: (0..side * side).filter(|_| random.chance(1)).collect(), ..drawn(side) }
 }
 
 /// A spiral road of tiny times from the corner inwards, with huge times between its turns.
@@ -140,7 +143,7 @@ fn ribbon_and_pool(side: usize) -> Ground {
     for (at, &place) in wall.iter().enumerate() {
         ground.set(place, 2.0 * (wall.len() - at) as f32);
     }
-    ground.start = (pool_rows + 2) * side + 1;
+    ground.targets = vec![(pool_rows + 2) * side + 1];
     ground
 }
 
@@ -164,4 +167,29 @@ fn folded(side: usize, first: usize, folds: usize) -> Vec<Place> {
         }
     }
     way
+}
+
+/// Two ways from the cell on the left to the next loop's: above 10 diagonal steps, below 12, which are less far.
+const LOOP: [&[u8; 10]; 6] = [b"..o.o.o.o.", b".o.o.o.o.o", b"o.........", b".o.......o", b".o.......o", b"..ooooooo."];
+
+/// A chain of loops, folded to and fro, below a pool of the same times. In each loop a front parts in two, of which the
+/// one that comes two steps later is better: out of each loop comes one front more, and all run over the whole pool.
+fn loops_and_pool(side: usize) -> Ground {
+    let folds = side / 14;
+    let pool_rows = side - 7 * folds;
+    let (left, right) = (1, (side - 3) / 10 * 10 + 1);
+    let mut ground = Ground::filled(side, BARRED);
+    ground.times[..pool_rows * side].fill(1.0);
+    for fold in 0..folds {
+        let top = pool_rows + 7 * fold + 1;
+        for (row, line) in LOOP.iter().enumerate() {
+            let open = (left..right).filter(|col| line[(col - left) % 10] == b'o');
+            open.for_each(|col| ground.set((top + row, col), 1.0));
+        }
+        let (turn, end) = if fold % 2 == 0 { (left - 1, right) } else { (right + 1, left) };
+        (top - 4..top + 2).for_each(|row| ground.set((row, turn), 1.0));
+        ground.set((top + 2, right), 1.0);
+        ground.targets = vec![(top + 2) * side + end];
+    }
+    ground
 }
