@@ -44,7 +44,8 @@ pub fn value_at_closest_target(targets: Grid<u8>, values: Grid<f32>) -> Result<S
 /// Search 5: the value at the target that is nearest to each cell by travel time, 0 where none is reached.
 ///
 /// A step costs its length times the time of the cell that is entered, which is the one farther from the target, as a way
-/// is counted from the target outward. Here a target is a byte that is not 0: 255 is one too. Where the value is nodata, a cell is neither started from nor entered, and holds NaN.
+/// is counted from the target outward. Here a target is a byte that is not 0: 255 is one too. Where the value is nodata,
+/// a cell is neither started from nor entered, and holds NaN.
 pub fn value_at_closest_travel_target(
     targets: Grid<u8>,
     times: Grid<f32>,
