@@ -76,11 +76,10 @@ fn is_same(one: &Path, other: &Path) -> bool {
 }
 
 fn report(case: &Case, run: &Run, asked: &Asked) -> String {
-    let search = case.search;
     let mut text = format!(
         "search {}, {}: {} takes in {:.3} ms, {} of {} cells reached\n",
-        search.number(),
-        search.name(),
+        case.search.number(),
+        case.name,
         thousands(run.sheet.takes),
         run.time.as_secs_f64() * 1000.0,
         thousands(run.reached as u64),

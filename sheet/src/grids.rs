@@ -15,6 +15,8 @@ const CORNERS_AGREE: f64 = 0.01;
 /// The inputs of one search.
 #[derive(Debug)]
 pub struct Case {
+    /// The name by which the search was asked for.
+    pub name: &'static str,
     pub search: Search,
     pub limit: f32,
     pub diagonals: BarrierDiagonals,
@@ -61,6 +63,7 @@ impl Case {
             agree(&layers[0], layer)?;
         }
         let mut case = Case {
+            name: asked.name,
             search: asked.search,
             limit: asked.limit,
             diagonals: asked.diagonals,

@@ -58,6 +58,8 @@ struct Given {
 /// What is asked of a search: exactly what it takes, and where the answer goes.
 #[derive(Debug)]
 pub struct Asked {
+    /// The command's own name: `travel_distance` stays that, though its search is `travel_distances_up_to`.
+    pub name: &'static str,
     pub search: Search,
     /// In the order of the search's roles.
     pub grids: Vec<(Role, PathBuf)>,
@@ -125,12 +127,13 @@ fn asked(command: &Command, given: Given) -> Result<Asked, String> {
     let has_obstacles = given.grids.iter().any(|(role, _)| *role == Role::Obstacles);
     let search =
         if command.name == "distance" && has_obstacles { Search::DistanceWithObstacles } else { command.search };
-    refuse_what_is_not_taken(search, &given)?;
+    refuse_what_is_not_taken(command, search, &given)?;
     Ok(Asked {
+        name: command.name,
         search,
-        limit: limit_of(search, given.limit, command.limit_may_be_left_out)?,
-        diagonals: diagonals_of(search, given.diagonals)?,
-        grids: grids_of(search, given.grids)?,
+        limit: limit_of(command, search, given.limit)?,
+        diagonals: diagonals_of(command, search, given.diagonals)?,
+        grids: grids_of(command, search, given.grids)?,
         adjacent: given.adjacent,
         nodata_starts: given.nodata_starts,
         out: given.out,
@@ -138,7 +141,7 @@ fn asked(command: &Command, given: Given) -> Result<Asked, String> {
     })
 }
 
-fn refuse_what_is_not_taken(search: Search, given: &Given) -> Result<(), String> {
+fn refuse_what_is_not_taken(command: &Command, search: Search, given: &Given) -> Result<(), String> {
     let options = [
         ("limit", given.limit.is_some(), search.has_limit()),
         ("diagonals", given.diagonals.is_some(), search.has_diagonals()),
@@ -147,42 +150,60 @@ fn refuse_what_is_not_taken(search: Search, given: &Given) -> Result<(), String>
     ];
     match options.into_iter().find(|(_, given, taken)| *given && !taken) {
         None => Ok(()),
-        Some((option, ..)) => Err(format!("{} takes no --{option}", search.name())),
+        Some((option, ..)) => Err(format!("{} takes no --{option}{}", command.name, given_obstacles(command, search))),
     }
 }
 
-fn limit_of(search: Search, given: Option<f32>, may_be_left_out: bool) -> Result<f32, String> {
+/// `distance` is another search where obstacles are given, and takes other options then.
+fn given_obstacles(command: &Command, search: Search) -> &'static str {
+    match (command.name, search.has_obstacles()) {
+        ("distance", true) => " with obstacles",
+        ("distance", false) => " without obstacles",
+        _ => "",
+    }
+}
+
+fn limit_of(command: &Command, search: Search, given: Option<f32>) -> Result<f32, String> {
     match given {
         Some(limit) => Ok(limit),
         None if !search.has_limit() => Ok(0.0),
-        None if may_be_left_out => Ok(f32::INFINITY),
-        None => Err(format!("{} wants --limit", search.name())),
+        None if command.limit_may_be_left_out => Ok(f32::INFINITY),
+        None => Err(format!("{} wants --limit", command.name)),
     }
 }
 
 /// There is no choice that is right unless it is said: a route depends on it.
-fn diagonals_of(search: Search, given: Option<BarrierDiagonals>) -> Result<BarrierDiagonals, String> {
+fn diagonals_of(
+    command: &Command,
+    search: Search,
+    given: Option<BarrierDiagonals>,
+) -> Result<BarrierDiagonals, String> {
     match given {
         Some(diagonals) => Ok(diagonals),
         None if !search.has_diagonals() => Ok(BarrierDiagonals::Include),
         None => Err(format!(
-            "{} wants --diagonals: `exclude` if a machine can't go between two obstacles that meet at a corner, \
+            "{}{} wants --diagonals: `exclude` if a machine can't go between two obstacles that meet at a corner, \
              `include` if it can",
-            search.name()
+            command.name,
+            given_obstacles(command, search)
         )),
     }
 }
 
 /// The search's grids in its order, none lacking and none left over.
-fn grids_of(search: Search, mut given: Vec<(Role, PathBuf)>) -> Result<Vec<(Role, PathBuf)>, String> {
+fn grids_of(
+    command: &Command,
+    search: Search,
+    mut given: Vec<(Role, PathBuf)>,
+) -> Result<Vec<(Role, PathBuf)>, String> {
     let mut grids = Vec::new();
     for role in search.roles() {
         let at = given.iter().position(|(other, _)| other == role);
-        grids.push(given.remove(at.ok_or_else(|| format!("{} wants --{}", search.name(), role.name()))?));
+        grids.push(given.remove(at.ok_or_else(|| format!("{} wants --{}", command.name, role.name()))?));
     }
     match given.first() {
         None => Ok(grids),
         Some((role, _)) if search.roles().contains(role) => Err(format!("--{} is given twice", role.name())),
-        Some((role, _)) => Err(format!("{} takes no --{}", search.name(), role.name())),
+        Some((role, _)) => Err(format!("{} takes no --{}", command.name, role.name())),
     }
 }

@@ -65,7 +65,7 @@ fn title(case: &Case) -> String {
         BarrierDiagonals::Include => ", diagonals include",
         BarrierDiagonals::Exclude => ", diagonals exclude",
     };
-    format!("{}{diagonals}", case.search.name())
+    format!("{}{diagonals}", case.name)
 }
 
 impl Range {

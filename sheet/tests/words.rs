@@ -49,24 +49,24 @@ fn words_that_are_not_understood() {
     let cases = [
         ("", "a search is wanted; `sheet --help` lists them"),
         ("distanc", "`distanc` is no search; `sheet --help` lists them"),
-        ("distance", "distances_up_to wants --targets"),
+        ("distance", "distance wants --targets"),
         ("distances_up_to --targets a.asc", "distances_up_to wants --limit"),
-        ("distance --targets a.asc --times a.asc", "distances_up_to takes no --times"),
+        ("distance --targets a.asc --times a.asc", "distance takes no --times"),
         ("distance --targets a.asc --targets a.asc", "--targets is given twice"),
         ("distance --targets a.asc --out b --out c", "--out is given twice"),
-        ("distance --targets a.asc --diagonals exclude", "distances_up_to takes no --diagonals"),
+        ("distance --targets a.asc --diagonals exclude", "distance takes no --diagonals without obstacles"),
         ("distance --targets a.asc --obstacles a.asc --diagonals no", "--diagonals is `include` or `exclude`, not no"),
         (
             "distance --targets a.asc --obstacles a.asc --diagonals include --limit 3",
-            "distance_with_obstacles takes no --limit",
+            "distance takes no --limit with obstacles",
         ),
         (
             "distance --targets a.asc --obstacles a.asc",
-            "distance_with_obstacles wants --diagonals: `exclude` if a machine can't go between two obstacles that \
+            "distance with obstacles wants --diagonals: `exclude` if a machine can't go between two obstacles that \
              meet at a corner, `include` if it can",
         ),
         ("value_at_closest_target --targets a.asc --nodata-starts", "value_at_closest_target takes no --nodata-starts"),
-        ("travel_distance --targets a.asc --times a.asc --adjacent", "travel_distances_up_to takes no --adjacent"),
+        ("travel_distance --targets a.asc --times a.asc --adjacent", "travel_distance takes no --adjacent"),
         ("distance --colour red", "invalid option '--colour'"),
         ("distance a.asc", "unexpected argument \"a.asc\""),
         ("distance --targets", "missing argument for option '--targets'"),
