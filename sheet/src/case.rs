@@ -6,7 +6,7 @@ use search::{BYTE_NODATA, Role, Search};
 
 use crate::asc::rows;
 use crate::fields::{self, FLAGS, Field, GRID, INDEX, NUMBERS, SIZE, STATUS, TAKES};
-use crate::numbers::{nine_digits, thousands};
+use crate::numbers::{shortest, thousands};
 
 /// The rows and columns of a grid file, which an answer file does not repeat.
 pub type Size = (u16, u16);
@@ -95,7 +95,7 @@ fn print_numbers([c0, c1, c2, c3, l0, l1, l2, l3]: [u8; 8], search: Option<Searc
         ("limit", [l0, l1, l2, l3], search.is_some_and(Search::has_limit)),
     ];
     let said = numbers.into_iter().filter(|(_, bytes, has)| *has || *bytes != [0; 4]);
-    said.map(|(name, bytes, _)| format!("{name} {}\n", nine_digits(f32::from_le_bytes(bytes)))).collect()
+    said.map(|(name, bytes, _)| format!("{name} {}\n", shortest(f32::from_le_bytes(bytes)))).collect()
 }
 
 fn cells_in_words(field: &Field, role: Role) -> Vec<String> {
@@ -111,7 +111,7 @@ fn cells_in_words(field: &Field, role: Role) -> Vec<String> {
 }
 
 fn floats_in_words(field: &Field) -> Vec<String> {
-    field.floats().iter().map(|cell| if cell.is_nan() { "nodata".to_owned() } else { nine_digits(*cell) }).collect()
+    field.floats().iter().map(|cell| if cell.is_nan() { "nodata".to_owned() } else { shortest(*cell) }).collect()
 }
 
 /// A grid's cells row by row, under its name; in one row where the columns are not known.

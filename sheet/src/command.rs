@@ -9,11 +9,11 @@ use crate::case;
 use crate::fields;
 use crate::grids::Case;
 use crate::help;
-use crate::numbers::thousands;
 use crate::options::{self, Asked, Command};
 use crate::output::{Written, write_all};
-use crate::searches::{self, Run};
-use crate::{asc, picture, refusals};
+use crate::place::Source;
+use crate::stand_ins::StandIns;
+use crate::{asc, geotiff, notes, picture, refusals, report, searches};
 
 type Words = std::vec::IntoIter<OsString>;
 
@@ -22,6 +22,7 @@ pub fn run(words: impl Iterator<Item = OsString>) -> Result<String, String> {
     let mut words: Words = words.collect::<Vec<_>>().into_iter();
     match next_word(&mut words)?.as_str() {
         "--help" | "-h" | "help" => Ok(help::top()),
+        "--version" | "-V" | "version" => Ok(help::version()),
         "case" => run_case(words),
         name => {
             let command = options::find_command(name)?;
@@ -43,18 +44,47 @@ fn make_sheet(asked: &Asked) -> Result<String, String> {
         return Err("--out or --picture must say where the sheet goes".to_owned());
     }
     keep_inputs(asked)?;
-    let case = Case::read(asked)?;
+    let case = read_case(asked)?;
     let run = searches::run(&case).map_err(|refusal| refusals::sentence(refusal, &case))?;
+    let stand_ins = StandIns::of(&case.first().place, &run.sheet.cells, asked.unreached)?;
     let mut files = Vec::new();
     if let Some(path) = &asked.out {
-        let text = asc::write(&case.first().header, &run.sheet.cells);
-        files.push(Written { path: path.clone(), bytes: text.into_bytes() });
+        files.extend(sheet_files(path, &case, &run.sheet.cells, &stand_ins)?);
     }
     if let Some(path) = &asked.picture {
         files.push(Written { path: path.clone(), bytes: picture::draw(&case, &run)? });
     }
     write_all(&files)?;
-    Ok(report(&case, &run, asked))
+    Ok(report::on(&case, &run, asked, &stand_ins))
+}
+
+/// Reads a case, and says what should be known about it.
+fn read_case(asked: &Asked) -> Result<Case, String> {
+    let case = Case::read(asked)?;
+    for note in notes::on(&case, asked) {
+        eprintln!("sheet: note: {note}");
+    }
+    Ok(case)
+}
+
+/// The sheet in the format that the file's name says, and the coordinate system beside it, where it came from beside.
+fn sheet_files(path: &Path, case: &Case, cells: &[f32], stand_ins: &StandIns) -> Result<Vec<Written>, String> {
+    let place = &case.first().place;
+    let mut files = Vec::new();
+    let bytes = if geotiff::is_tiff_name(path) {
+        geotiff::write(place, cells, stand_ins)?
+    } else {
+        let beside = path.with_extension("prj");
+        if let Source::Ascii { projection: Some(projection), .. } = &place.source
+            && path != Path::new("-")
+            && !is_same(&projection.path, &beside)
+        {
+            files.push(Written { path: beside, bytes: projection.text.clone() });
+        }
+        asc::write(place, cells, stand_ins).into_bytes()
+    };
+    files.push(Written { path: path.to_owned(), bytes });
+    Ok(files)
 }
 
 /// No file is written over an input, nor over the other output: that would be a slip.
@@ -75,30 +105,17 @@ fn is_same(one: &Path, other: &Path) -> bool {
     one == other || matches!((one.canonicalize(), other.canonicalize()), (Ok(one), Ok(other)) if one == other)
 }
 
-fn report(case: &Case, run: &Run, asked: &Asked) -> String {
-    let mut text = format!(
-        "search {}, {}: {} takes in {:.3} ms, {} of {} cells reached\n",
-        case.search.number(),
-        case.name,
-        thousands(run.sheet.takes),
-        run.time.as_secs_f64() * 1000.0,
-        thousands(run.reached as u64),
-        thousands(run.sheet.cells.len() as u64)
-    );
-    if asked.out.is_some() && asc::nodata_for(&run.sheet.cells) == "nan" {
-        text += "a cell holds the number -9999, so the NODATA_value of the sheet is nan\n";
-    }
-    text
-}
-
 fn run_case(mut words: Words) -> Result<String, String> {
     match words.next().as_ref().and_then(|word| word.to_str()) {
         Some("pack") => {
             let name = next_word(&mut words)?;
+            if ["--help", "-h"].contains(&name.as_str()) {
+                return Ok(help::CASE.to_owned());
+            }
             let command = options::find_command(&name)?;
             match options::read(command, words)? {
                 Some(asked) => pack(&asked, command),
-                None => Ok(help::CASE.to_owned()),
+                None => Ok(help::of_pack(command)),
             }
         }
         Some("print") => print(words),
@@ -113,7 +130,7 @@ fn pack(asked: &Asked, command: &Command) -> Result<String, String> {
     }
     let path = asked.out.clone().ok_or("--out must say where the grid file goes")?;
     keep_inputs(asked)?;
-    let bytes = fields::pack(&Case::read(asked)?)?;
+    let bytes = fields::pack(&read_case(asked)?)?;
     let said = format!("{}: {} bytes for {}\n", path.display(), bytes.len(), command.name);
     write_all(&[Written { path, bytes }])?;
     Ok(said)

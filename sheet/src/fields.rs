@@ -29,11 +29,11 @@ pub fn tag(role: Role) -> u8 {
 
 /// The case as a grid file for `haul`.
 pub fn pack(case: &Case) -> Result<Vec<u8>, String> {
-    let Layer { path, header, cells, .. } = case.first();
+    let Layer { path, place, cells, .. } = case.first();
     if cells.len() > CELLS_MAX {
         return Err(format!("{} has {} cells, and a grid file holds at most {CELLS_MAX}", path.display(), cells.len()));
     }
-    let [rows, columns] = [header.rows, header.columns].map(|side| u16::try_from(side).expect("a side is in bounds"));
+    let [rows, columns] = [place.rows, place.columns].map(|side| u16::try_from(side).expect("a side is in bounds"));
     let flags = [case.search.number(), u8::from(case.diagonals == BarrierDiagonals::Exclude), u8::from(case.adjacent)];
     let cell_size = if case.search.has_cell_size() { case.cell_size() } else { 0.0 };
 

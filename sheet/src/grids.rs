@@ -1,16 +1,14 @@
 //! A search's grids, read from their files and held to each other.
+use std::fs;
 use std::path::{Path, PathBuf};
 
 use haul::{BarrierDiagonals, Grid};
 use search::{BYTE_NODATA, Role, Search};
 
-use crate::asc::{self, Asc, Header};
-use crate::numbers::read_float;
-use crate::options::Asked;
-
-/// Two grids lie on each other if all their corners do, up to so much of a cell: programs write coordinates with more or
-/// fewer digits.
-const CORNERS_AGREE: f64 = 0.01;
+use crate::cells::Cell;
+use crate::options::{Asked, Limit};
+use crate::place::Place;
+use crate::{asc, geotiff};
 
 /// The inputs of one search.
 #[derive(Debug)]
@@ -29,7 +27,7 @@ pub struct Case {
 pub struct Layer {
     pub role: Role,
     pub path: PathBuf,
-    pub header: Header,
+    pub place: Place,
     pub cells: Cells,
 }
 
@@ -50,6 +48,21 @@ impl Cells {
     pub fn is_empty(&self) -> bool {
         self.len() == 0
     }
+
+    /// How many cells are nodata.
+    pub fn count_nodata(&self) -> usize {
+        match self {
+            Cells::Bytes(cells) => cells.iter().filter(|cell| **cell == BYTE_NODATA).count(),
+            Cells::Floats(cells) => cells.iter().filter(|cell| cell.is_nan()).count(),
+        }
+    }
+
+    fn pass_nodata_as_0(&mut self) {
+        match self {
+            Cells::Bytes(cells) => cells.iter_mut().filter(|cell| **cell == BYTE_NODATA).for_each(|cell| *cell = 0),
+            Cells::Floats(cells) => cells.iter_mut().filter(|cell| cell.is_nan()).for_each(|cell| *cell = 0.0),
+        }
+    }
 }
 
 impl Case {
@@ -57,31 +70,25 @@ impl Case {
     pub fn read(asked: &Asked) -> Result<Case, String> {
         let mut layers = Vec::new();
         for (role, path) in &asked.grids {
-            layers.push(Layer::read(*role, path)?);
+            layers.push(Layer::read(*role, path, asked.unreached.number())?);
         }
         for layer in &layers[1..] {
             agree(&layers[0], layer)?;
         }
-        let mut case = Case {
+        for layer in &mut layers {
+            if asked.is_nodata_0(layer.role) {
+                layer.cells.pass_nodata_as_0();
+            }
+        }
+        let limit = limit_in_cells(asked.limit, &layers[0])?;
+        Ok(Case {
             name: asked.name,
             search: asked.search,
-            limit: asked.limit,
+            limit,
             diagonals: asked.diagonals,
             adjacent: asked.adjacent,
             layers,
-        };
-        if asked.search.starts_at_nodata() && !asked.nodata_starts {
-            case.pass_nodata_targets_as_0();
-        }
-        Ok(case)
-    }
-
-    /// In searches 5 and 6 a target byte of 255 would start. A planner's nodata means that nothing is known there, so
-    /// it is no landing.
-    fn pass_nodata_targets_as_0(&mut self) {
-        if let Cells::Bytes(cells) = &mut self.layers[0].cells {
-            cells.iter_mut().filter(|cell| **cell == BYTE_NODATA).for_each(|cell| *cell = 0);
-        }
+        })
     }
 
     pub fn layer(&self, role: Role) -> Option<&Layer> {
@@ -94,13 +101,18 @@ impl Case {
     }
 
     pub fn cell_size(&self) -> f32 {
-        self.first().header.cell_size as f32
+        self.first().place.cell_size as f32
+    }
+
+    /// What lengths are counted in.
+    pub fn length_unit(&self) -> &'static str {
+        self.first().place.unit().short()
     }
 
     /// The grid of bytes with this role, which the search has.
     pub fn bytes(&self, role: Role) -> Grid<'_, u8> {
         match self.layer(role) {
-            Some(Layer { header, cells: Cells::Bytes(cells), .. }) => Grid::new(header.rows, header.columns, cells),
+            Some(Layer { place, cells: Cells::Bytes(cells), .. }) => Grid::new(place.rows, place.columns, cells),
             _ => panic!("{} has no bytes in {}", role.name(), self.search.name()),
         }
     }
@@ -108,83 +120,64 @@ impl Case {
     /// The grid of floats with this role, which the search has.
     pub fn floats(&self, role: Role) -> Grid<'_, f32> {
         match self.layer(role) {
-            Some(Layer { header, cells: Cells::Floats(cells), .. }) => Grid::new(header.rows, header.columns, cells),
+            Some(Layer { place, cells: Cells::Floats(cells), .. }) => Grid::new(place.rows, place.columns, cells),
             _ => panic!("{} has no floats in {}", role.name(), self.search.name()),
         }
     }
 }
 
 impl Layer {
-    fn read(role: Role, path: &Path) -> Result<Layer, String> {
-        if role.is_bytes() {
-            asc::read(path, byte).map(|grid| Layer::new(role, grid, Cells::Bytes))
+    fn read(role: Role, path: &Path, unreached: Option<f32>) -> Result<Layer, String> {
+        let (place, cells) = if role.is_bytes() {
+            let (place, cells) = read_grid(path, unreached)?;
+            (place, Cells::Bytes(cells))
         } else {
-            asc::read(path, float).map(|grid| Layer::new(role, grid, Cells::Floats))
-        }
-    }
-
-    fn new<T>(role: Role, grid: Asc<T>, cells: impl FnOnce(Vec<T>) -> Cells) -> Layer {
-        Layer { role, path: grid.path, header: grid.header, cells: cells(grid.cells) }
+            let (place, cells) = read_grid(path, unreached)?;
+            (place, Cells::Floats(cells))
+        };
+        Ok(Layer { role, path: path.to_owned(), place, cells })
     }
 }
 
-/// A cell of a byte grid. Numbers are read as f64, so that 254.0000001 is not taken for 254.
-pub fn byte(text: &str, header: &Header) -> Result<u8, &'static str> {
-    let number: f64 = text.parse().map_err(|_| "is no number")?;
-    if header.is_nodata(number) {
-        return Ok(BYTE_NODATA);
-    }
-    // The cast keeps every number from 0 to 254, and what it changes is then seen to differ.
-    let byte = number as u8;
-    if f64::from(byte) == number && byte != BYTE_NODATA {
-        Ok(byte)
-    } else {
-        Err("is neither a whole number from 0 to 254 nor the NODATA_value")
+/// Reads a grid, whichever of the formats its bytes are in.
+pub fn read_grid<T: Cell>(path: &Path, unreached: Option<f32>) -> Result<(Place, Vec<T>), String> {
+    let bytes = fs::read(path).map_err(|error| format!("{} can't be read: {error}", path.display()))?;
+    if geotiff::is_tiff(&bytes) { geotiff::read(path, &bytes, unreached) } else { asc::read(path, &bytes, unreached) }
+}
+
+/// The limit as the library takes it. One in metres is divided by the cell size, as doubles, and rounded to a float.
+fn limit_in_cells(limit: Limit, first: &Layer) -> Result<f32, String> {
+    let place = &first.place;
+    match limit {
+        Limit::Number(limit) => Ok(limit),
+        Limit::Metres(_) if place.unit() != crate::place::Unit::Metres => Err(format!(
+            "--limit-metres is for grids in metres, and {} is in {}",
+            first.path.display(),
+            place.unit().short()
+        )),
+        Limit::Metres(metres) => Ok((metres / place.cell_size) as f32),
     }
 }
 
-/// A cell of a float grid.
-pub fn float(text: &str, header: &Header) -> Result<f32, &'static str> {
-    if text.parse().is_ok_and(|number| header.is_nodata(number)) {
-        return Ok(f32::NAN);
-    }
-    match read_float(text) {
-        None => Err("is no number that a float holds"),
-        Some(number) if number.is_nan() => Err("is neither a number nor the NODATA_value"),
-        Some(number) => Ok(number),
-    }
-}
-
-/// Two grids of one search have the same size and lie on each other.
+/// Two grids of one search have the same size, lie on each other and have one coordinate system.
 fn agree(first: &Layer, other: &Layer) -> Result<(), String> {
-    let (a, b) = (&first.header, &other.header);
-    let size = |header: &Header| format!("{} rows and {} columns", header.rows, header.columns);
+    let (a, b) = (&first.place, &other.place);
+    let files = format!("{} and {}", first.path.display(), other.path.display());
+    let size = |place: &Place| format!("{} rows and {} columns", place.rows, place.columns);
     if (a.rows, a.columns) != (b.rows, b.columns) {
         return Err(format!("{} has {}, but {} has {}", first.path.display(), size(a), other.path.display(), size(b)));
     }
-    if lie_on_each_other(a, b) {
+    if let (Some(one), Some(other)) = (a.coordinate_system(), b.coordinate_system())
+        && one != other
+    {
+        return Err(format!("{files} have two coordinate systems: {one} against {other}"));
+    }
+    if a.lies_on(b) {
         return Ok(());
     }
-    let place = |header: &Header| match header.corner() {
-        Some((west, south)) => format!("corner {west} {south} and cell size {}", header.cell_size),
-        None => format!("cell size {}", header.cell_size),
+    let place = |place: &Place| match place.corner {
+        Some((west, south)) => format!("corner {west} {south} and cell size {}", place.cell_size),
+        None => format!("cell size {}", place.cell_size),
     };
-    Err(format!(
-        "{} and {} do not lie on each other: {} against {}",
-        first.path.display(),
-        other.path.display(),
-        place(a),
-        place(b)
-    ))
-}
-
-/// All corners are within a hundredth of a cell. A header without corners says nothing about where the grid lies.
-fn lie_on_each_other(a: &Header, b: &Header) -> bool {
-    let near = |difference: f64| difference.abs() <= CORNERS_AGREE * a.cell_size.abs();
-    let side = f64::from(a.rows.max(a.columns));
-    let corners = match (a.corner(), b.corner()) {
-        (Some(a), Some(b)) => near(a.0 - b.0) && near(a.1 - b.1),
-        _ => true,
-    };
-    corners && near((a.cell_size - b.cell_size) * side)
+    Err(format!("{files} do not lie on each other: {} against {}", place(a), place(b)))
 }

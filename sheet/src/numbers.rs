@@ -1,4 +1,4 @@
-//! Floats as text: nine significant digits bring each back bit for bit.
+//! Floats as text: the shortest digits that bring each back bit for bit.
 
 /// The f32 nearest to a number in text; infinity is `inf`. None where the text is no number, or a finite one that is
 /// above every f32.
@@ -8,24 +8,39 @@ pub fn read_float(text: &str) -> Option<f32> {
     if number.is_infinite() && !says_infinity { None } else { Some(number) }
 }
 
-/// The float with nine significant digits, zeros at their end left out: `14.1421356`, `10`, `9.31322575e-10`, `inf`.
-pub fn nine_digits(number: f32) -> String {
-    if !number.is_finite() {
-        return number.to_string();
-    }
-    let scientific = format!("{number:.8e}");
-    let (digits, exponent) = scientific.split_once('e').expect("the form has an exponent");
-    let exponent: i32 = exponent.parse().expect("the exponent is a whole number");
-    if (-5..9).contains(&exponent) {
-        let decimals = usize::try_from(8 - exponent).expect("the exponent is at most 8");
-        without_end_zeros(&format!("{number:.decimals$}")).to_owned()
+/// The one float, beside its negative, whose shortest digits, 7.038531e-26, read as a double and then rounded to a float
+/// are another one: found by trying all floats.
+const LOST_THROUGH_A_DOUBLE: u32 = 0x15AE_43FD;
+
+/// Adds the float in the shortest digits that bring it back: `14.142136`, `10`, `9.313226e-10`, `inf`. They do so also
+/// where a program reads a double and rounds it then.
+pub fn push_float(text: &mut String, number: f32) {
+    if number.abs().to_bits() == LOST_THROUGH_A_DOUBLE {
+        text.push_str(&format!("{number:.8e}"));
+    } else if number.is_finite() {
+        let mut buffer = ryu::Buffer::new();
+        let digits = buffer.format_finite(number);
+        text.push_str(digits.strip_suffix(".0").unwrap_or(digits));
     } else {
-        format!("{}e{exponent:+03}", without_end_zeros(digits))
+        text.push_str(&number.to_string());
     }
 }
 
-fn without_end_zeros(decimal: &str) -> &str {
-    if decimal.contains('.') { decimal.trim_end_matches('0').trim_end_matches('.') } else { decimal }
+/// The float in the shortest digits that bring it back.
+pub fn shortest(number: f32) -> String {
+    let mut text = String::new();
+    push_float(&mut text, number);
+    text
+}
+
+/// The same with a decimal point, by which other programs see that a file holds floats.
+pub fn with_point(number: f32) -> String {
+    let text = shortest(number);
+    match text.split_once('e') {
+        _ if text.contains('.') || !number.is_finite() => text,
+        Some((digits, exponent)) => format!("{digits}.0e{exponent}"),
+        None => text + ".0",
+    }
 }
 
 /// A count with its thousands parted: 1,048,576.

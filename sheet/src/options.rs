@@ -7,6 +7,7 @@ use lexopt::Arg::{Long, Short, Value};
 use search::{Role, Search};
 
 use crate::numbers::read_float;
+use crate::stand_ins::Unreached;
 
 /// A command that runs a search. Two of them, `distance` and `travel_distance`, stand for document 01's forms without a
 /// limit; given one, they are the search with it.
@@ -46,13 +47,22 @@ pub fn find_command(word: &str) -> Result<&'static Command, String> {
 #[derive(Default)]
 struct Given {
     grids: Vec<(Role, PathBuf)>,
-    limit: Option<f32>,
+    limit: Option<Limit>,
+    unreached: Option<Unreached>,
+    nodata_as_0: Vec<Role>,
     diagonals: Option<BarrierDiagonals>,
     adjacent: bool,
     nodata_starts: bool,
     out: Option<PathBuf>,
     picture: Option<PathBuf>,
     help: bool,
+}
+
+/// A limit as it was given: in what the search counts in, or in metres.
+#[derive(Clone, Copy, Debug, PartialEq)]
+pub enum Limit {
+    Number(f32),
+    Metres(f64),
 }
 
 /// What is asked of a search: exactly what it takes, and where the answer goes.
@@ -64,13 +74,25 @@ pub struct Asked {
     /// In the order of the search's roles.
     pub grids: Vec<(Role, PathBuf)>,
     /// 0 in a search that has none.
-    pub limit: f32,
+    pub limit: Limit,
     /// `Include` in a search that has none.
     pub diagonals: BarrierDiagonals,
     pub adjacent: bool,
     pub nodata_starts: bool,
+    /// The grids in which nodata counts as 0.
+    pub nodata_as_0: Vec<Role>,
+    pub unreached: Unreached,
     pub out: Option<PathBuf>,
     pub picture: Option<PathBuf>,
+}
+
+impl Asked {
+    /// Whether nodata in the grid with this role counts as 0. In searches 5 and 6 a target byte of 255 would start; a
+    /// planner's nodata means that nothing is known there, so it is no landing unless that is asked for.
+    pub fn is_nodata_0(&self, role: Role) -> bool {
+        let no_landing = role == Role::Targets && self.search.starts_at_nodata() && !self.nodata_starts;
+        no_landing || self.nodata_as_0.contains(&role)
+    }
 }
 
 /// What the words after a command's name ask for, or none where they ask for help.
@@ -88,6 +110,11 @@ fn read_words(words: impl Iterator<Item = OsString> + 'static) -> Result<Given, 
             Long("adjacent") => given.adjacent = true,
             Long("nodata-starts") => given.nodata_starts = true,
             Long("limit") => once(&mut given.limit, "limit", read_limit(parser.value()?)?)?,
+            Long("limit-metres") => once(&mut given.limit, "limit", read_metres(parser.value()?)?)?,
+            Long("unreached") => {
+                once(&mut given.unreached, "unreached", Unreached::read(&parser.value()?.to_string_lossy())?)?;
+            }
+            Long("nodata-as-0") => given.nodata_as_0.push(read_role(parser.value()?)?),
             Long("diagonals") => once(&mut given.diagonals, "diagonals", read_diagonals(parser.value()?)?)?,
             Long("out") => once(&mut given.out, "out", parser.value()?.into())?,
             Long("picture") => once(&mut given.picture, "picture", parser.value()?.into())?,
@@ -109,9 +136,26 @@ fn once<T>(place: &mut Option<T>, name: &str, value: T) -> Result<(), String> {
     }
 }
 
-fn read_limit(word: OsString) -> Result<f32, String> {
+fn read_limit(word: OsString) -> Result<Limit, String> {
     let word = word.to_string_lossy();
-    read_float(&word).ok_or_else(|| format!("--limit {word} is no number that a float holds; `inf` is for none"))
+    let limit = read_float(&word).map(Limit::Number);
+    limit.ok_or_else(|| format!("--limit {word} is no number that a float holds; `inf` is for none"))
+}
+
+fn read_metres(word: OsString) -> Result<Limit, String> {
+    let word = word.to_string_lossy();
+    let metres = word.parse().ok().filter(|metres: &f64| metres.is_finite()).map(Limit::Metres);
+    metres.ok_or_else(|| format!("--limit-metres {word} is no length"))
+}
+
+fn read_role(word: OsString) -> Result<Role, String> {
+    match Role::ALL.into_iter().find(|role| Some(role.name()) == word.to_str()) {
+        Some(Role::Times) => Err("--nodata-as-0 is not for times: what can't be entered would cost nothing".to_owned()),
+        Some(role) => Ok(role),
+        None => {
+            Err(format!("--nodata-as-0 wants the name of a grid, such as `obstacles`, not {}", word.to_string_lossy()))
+        }
+    }
 }
 
 fn read_diagonals(word: OsString) -> Result<BarrierDiagonals, String> {
@@ -128,6 +172,9 @@ fn asked(command: &Command, given: Given) -> Result<Asked, String> {
     let search =
         if command.name == "distance" && has_obstacles { Search::DistanceWithObstacles } else { command.search };
     refuse_what_is_not_taken(command, search, &given)?;
+    if given.nodata_starts && given.nodata_as_0.contains(&Role::Targets) {
+        return Err("--nodata-starts and --nodata-as-0 targets contradict each other".to_owned());
+    }
     Ok(Asked {
         name: command.name,
         search,
@@ -136,20 +183,30 @@ fn asked(command: &Command, given: Given) -> Result<Asked, String> {
         grids: grids_of(command, search, given.grids)?,
         adjacent: given.adjacent,
         nodata_starts: given.nodata_starts,
+        nodata_as_0: given.nodata_as_0,
+        unreached: given.unreached.unwrap_or_default(),
         out: given.out,
         picture: given.picture,
     })
 }
 
 fn refuse_what_is_not_taken(command: &Command, search: Search, given: &Given) -> Result<(), String> {
+    let in_metres = matches!(given.limit, Some(Limit::Metres(_)));
     let options = [
         ("limit", given.limit.is_some(), search.has_limit()),
+        ("limit-metres", in_metres, search == Search::DistancesUpTo),
         ("diagonals", given.diagonals.is_some(), search.has_diagonals()),
         ("adjacent", given.adjacent, search.has_adjacent()),
         ("nodata-starts", given.nodata_starts, search.starts_at_nodata()),
     ];
+    let foreign_role = given.nodata_as_0.iter().find(|role| !search.roles().contains(role));
     match options.into_iter().find(|(_, given, taken)| *given && !taken) {
-        None => Ok(()),
+        None => match foreign_role {
+            None => Ok(()),
+            Some(role) => {
+                Err(format!("{} takes no --{1}, so --nodata-as-0 {1} says nothing", command.name, role.name()))
+            }
+        },
         Some((option, ..)) => Err(format!("{} takes no --{option}{}", command.name, given_obstacles(command, search))),
     }
 }
@@ -163,11 +220,11 @@ fn given_obstacles(command: &Command, search: Search) -> &'static str {
     }
 }
 
-fn limit_of(command: &Command, search: Search, given: Option<f32>) -> Result<f32, String> {
+fn limit_of(command: &Command, search: Search, given: Option<Limit>) -> Result<Limit, String> {
     match given {
         Some(limit) => Ok(limit),
-        None if !search.has_limit() => Ok(0.0),
-        None if command.limit_may_be_left_out => Ok(f32::INFINITY),
+        None if !search.has_limit() => Ok(Limit::Number(0.0)),
+        None if command.limit_may_be_left_out => Ok(Limit::Number(f32::INFINITY)),
         None => Err(format!("{} wants --limit", command.name)),
     }
 }

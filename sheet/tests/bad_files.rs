@@ -33,8 +33,8 @@ fn rows() {
 
 #[test]
 fn bytes() {
-    let wrong = "is neither a whole number from 0 to 254 nor the NODATA_value at row 2, column 3 of landings.asc";
-    for word in ["255", "300", "-1", "1.5", "nan", "inf", "-inf", "1e99", "254.0000001", "-9998"] {
+    let wrong = "is neither a whole number nor the nodata value at row 2, column 3 of landings.asc";
+    for word in ["1.5", "nan", "inf", "-inf", "1e999", "254.0000001", "-0.5"] {
         assert_eq!(cells("byte", &format!("1 0 0\n0 0 {word}\n")), format!("`{word}` {wrong}"));
     }
     assert_eq!(cells("text", "1 0 0\n0 0 x\n"), "`x` is no number at row 2, column 3 of landings.asc");
@@ -51,7 +51,7 @@ fn floats() {
     };
     assert_eq!(said_to("1 x"), "`x` is no number that a float holds at row 1, column 2 of times.asc");
     assert_eq!(said_to("1e39 1"), "`1e39` is no number that a float holds at row 1, column 1 of times.asc");
-    assert_eq!(said_to("1 nan"), "`nan` is neither a number nor the NODATA_value at row 1, column 2 of times.asc");
+    assert_eq!(said_to("1 nan"), "`nan` is neither a number nor the nodata value at row 1, column 2 of times.asc");
     assert_eq!(said_to("1 -inf"), "time below 0 at row 1, column 2 of times.asc");
 }
 
@@ -81,7 +81,8 @@ fn headers() {
     );
     assert_eq!(
         landings("not-square", with("cellsize 10\n", "dx 10\ndy 20\n")),
-        "the header of landings.asc has dx 10 and dy 20: the searches are for square cells"
+        "the header of landings.asc has cells that are 10 wide and 20 high, and the searches are for square cells; \
+         `gdalwarp -r near -tr 10 10 landings.asc square.tif` makes them square"
     );
     assert_eq!(
         landings("half-square", with("cellsize 10\n", "dx 10\n")),
@@ -91,7 +92,7 @@ fn headers() {
         landings("unknown", with("cellsize 10\n", "cellsize 10\nprojection 3\n")),
         "`projection` is no number at row 1, column 1 of landings.asc"
     );
-    assert_eq!(landings("binary", b"\x89PNG\xff\xfe"), "landings.asc is no text, so no ESRI ASCII grid");
+    assert_eq!(landings("binary", b"\xff\xfe\x00"), "landings.asc is no text, so no ESRI ASCII grid, and no GeoTIFF");
 }
 
 /// Out of the library's bounds. The cells are not there to be read, so it is the header that is judged.
@@ -201,7 +202,7 @@ fn headers_that_agree() {
     ] {
         let output = ditches(&folder, header, " 0 0 1.0 \n\n 0 1 0\n\n");
         assert!(output.status.success(), "{header}: {}", String::from_utf8_lossy(&output.stderr));
-        assert_eq!(common::cells(&folder, "out.asc"), "0 10 inf | 10 inf inf");
+        assert_eq!(common::cells(&folder, "out.asc"), "0 10 -9999 | 10 -9999 -9999");
     }
 }
 
@@ -219,7 +220,7 @@ fn nodata_of_floats() {
         let text = format!("ncols 3\nnrows 1\ncellsize 1\nNODATA_value {header}\n1 {nodata} 0\n");
         fs::write(folder.join("times.asc"), text).unwrap();
         said(&folder, "travel_distance --targets landings.asc --times times.asc --out out.asc");
-        assert_eq!(common::cells(&folder, "out.asc"), "0 -9999 inf", "{header}");
+        assert_eq!(common::cells(&folder, "out.asc"), "0 -9999 -9999", "{header}");
     }
 }
 
@@ -236,7 +237,7 @@ fn nodata_values() {
         let text = format!("ncols 3\nnrows 1\ncellsize 10\n{header}1 {nodata} 0\n");
         fs::write(folder.join("landings.asc"), text).unwrap();
         said(&folder, DISTANCE);
-        assert_eq!(common::cells(&folder, "out.asc"), "0 -9999 inf", "{header}");
+        assert_eq!(common::cells(&folder, "out.asc"), "0 -9999 -9999", "{header}");
     }
 }
 
@@ -245,4 +246,33 @@ fn files_that_are_not_there() {
     let folder = folder("bad-absent");
     let sentence = failure(&folder, DISTANCE);
     assert!(sentence.starts_with("landings.asc can't be read: "), "{sentence}");
+}
+
+/// Grids of other programs, and comments, are named.
+#[test]
+fn grids_of_other_programs() {
+    let grass = "north: 40\nsouth: 0\neast: 60\nwest: 0\nrows: 2\ncols: 3\nnull: *\n1 0 0\n0 0 0\n";
+    let mend = "`gdal_translate -of AAIGrid IN OUT.asc` makes one of what GDAL can read";
+    assert_eq!(landings("grass", grass), format!("landings.asc is a GRASS ASCII grid and no ESRI ASCII grid; {mend}"));
+    assert_eq!(
+        landings("surfer", "DSAA\n3 2\n0 60\n0 40\n0 1\n1 0 0\n0 0 0\n"),
+        format!("landings.asc is a Surfer ASCII grid and no ESRI ASCII grid; {mend}")
+    );
+    assert_eq!(
+        landings("surfer-binary", b"DSBB\x03\x00\x02\x00\xff\xff\xff\xff"),
+        format!("landings.asc is a binary Surfer grid, and neither an ESRI ASCII grid nor a GeoTIFF; {mend}")
+    );
+    assert_eq!(
+        landings("comment-first", format!("# made by hand\n{HEADER}1 0 0\n0 0 0\n")),
+        "landings.asc begins with a comment, `# made by hand`, which a grid can't have"
+    );
+    assert_eq!(
+        landings("comment-header", HEADER.replace("nrows", "// rows\nnrows") + "1 0 0\n0 0 0\n"),
+        "the header of landings.asc has a comment, `// rows`, which an ESRI ASCII grid can't have"
+    );
+    assert_eq!(
+        cells("comment-cells", "1 0 0\n; the second row\n0 0 0\n"),
+        "`; the second row` is a comment, which a grid can't have, in row 2 of landings.asc"
+    );
+    assert_eq!(cells("comment-end", "1 0 0\n0 0 0\n# end\n"), "landings.asc has a comment below its cells, `# end`");
 }

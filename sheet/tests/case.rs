@@ -5,7 +5,7 @@ use std::io::Write;
 use std::path::Path;
 use std::process::{Command, Stdio};
 
-use common::{cells, failure, folder, grid, grid_of_cell_size, said};
+use common::{cells, failure, folder, grid, grid_of_cell_size, noted, said};
 
 /// Document 01's whole case.
 const WHOLE_CASE: &str = "01 03 00 02 00 00 02 04 00 02 00 02 00 03 08 00 00 00 20 41 00 00 00 00 04 04 00 01 00 00 00 \
@@ -46,11 +46,11 @@ fn the_whole_case() {
     fs::write(folder.join("answer.grid"), answer).unwrap();
     assert_eq!(
         said(&folder, "case print answer.grid --of case.grid"),
-        "answer file: accepted\ntakes 2\nanswer\n          0        inf\n        inf 14.1421356\n"
+        "answer file: accepted\ntakes 2\nanswer\n         0       inf\n       inf 14.142136\n"
     );
     assert_eq!(
         said(&folder, "case print answer.grid"),
-        "answer file: accepted\ntakes 2\nanswer\n          0        inf        inf 14.1421356\n"
+        "answer file: accepted\ntakes 2\nanswer\n         0       inf       inf 14.142136\n"
     );
 }
 
@@ -76,8 +76,8 @@ fn the_program_answers_as_the_tool_does() {
         "sum_within_travel_distance --mask a.asc --times times.asc --values values.asc --limit inf --adjacent",
         "sum_targets_within_travel_distance --times times.asc --amounts values.asc --limit 4",
     ] {
-        let told = said(&folder, &format!("{search} --out out.asc"));
-        said(&folder, &format!("case pack {search} --out case.grid"));
+        let (told, _) = noted(&folder, &format!("{search} --unreached inf --out out.asc"));
+        noted(&folder, &format!("case pack {search} --out case.grid"));
         fs::write(folder.join("answer.grid"), haul(&folder.join("case.grid"))).unwrap();
         let printed = said(&folder, "case print answer.grid --of case.grid");
 
@@ -151,6 +151,6 @@ fn grids_that_no_file_holds() {
     assert_eq!(sentence, "landings.asc has 1025 cells, and a grid file holds at most 1024");
     assert!(!folder.join("case.grid").exists());
     grid(&folder, "landings.asc", &vec!["0"; 1024].join(" "));
-    said(&folder, "case pack distance --targets landings.asc --out case.grid");
+    noted(&folder, "case pack distance --targets landings.asc --out case.grid");
     assert_eq!(haul(&folder.join("case.grid"))[..4], [0x10, 1, 0, 0]);
 }

@@ -40,7 +40,7 @@ fn a_picture_that_cannot_be_written() {
 #[test]
 fn a_grid_that_is_refused() {
     let folder = stand("output-refused");
-    grid(&folder, "landings.asc", "1 0 256");
+    grid(&folder, "landings.asc", "1 0 0.5");
     failure(&folder, "distance --targets landings.asc --out out.asc");
     untouched(&folder, &["landings.asc", "out.asc"]);
 }

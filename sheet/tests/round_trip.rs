@@ -2,9 +2,11 @@
 mod common;
 use std::fs::{self, File};
 
-use common::{cells, folder, grid, said};
-use sheet::numbers::{nine_digits, read_float};
-use sheet::{asc, grids};
+use common::{folder, grid, noted, said};
+use sheet::asc;
+use sheet::grids::read_grid;
+use sheet::numbers::{read_float, shortest, with_point};
+use sheet::stand_ins::{StandIns, Unreached};
 
 /// SplitMix64: the same bits on every machine.
 struct Random(u64);
@@ -27,34 +29,46 @@ fn floats(count: usize) -> Vec<f32> {
     special.chain(std::iter::repeat_with(|| random.bits() as u32)).map(f32::from_bits).take(count).collect()
 }
 
-#[test]
-fn nine_digits_bring_a_float_back() {
-    for float in floats(1_000_000).into_iter().filter(|float| !float.is_nan()) {
-        let text = nine_digits(float);
-        let digits = text.split(['e', 'E']).next().unwrap().trim_start_matches(['-', '0', '.']);
-        assert!(digits.chars().filter(char::is_ascii_digit).count() <= 9, "{text} has more than nine digits");
+/// The digits of a float bring it back, read as a float or as a double that is rounded then, as other programs do.
+fn comes_back(float: f32) {
+    for text in [shortest(float), with_point(float)] {
         assert_eq!(read_float(&text).map(f32::to_bits), Some(float.to_bits()), "{text}");
-        // Other programs read a double and round it then.
         assert_eq!((text.parse::<f64>().unwrap() as f32).to_bits(), float.to_bits(), "{text} as a double");
     }
 }
 
 #[test]
+fn the_shortest_digits_bring_a_float_back() {
+    floats(1_000_000).into_iter().filter(|float| !float.is_nan()).for_each(comes_back);
+    // Its shortest digits, 7.038531e-26, do not as a double.
+    comes_back(f32::from_bits(0x15AE_43FD));
+    comes_back(f32::from_bits(0x95AE_43FD));
+}
+
+/// All floats, which takes minutes: `cargo test --release -- --ignored`.
+#[test]
+#[ignore = "takes minutes"]
+fn the_shortest_digits_bring_all_floats_back() {
+    (0..0x7F80_0000).map(f32::from_bits).for_each(comes_back);
+}
+
+#[test]
 fn a_number_is_written_as_people_write_it() {
     let written = [
-        (10.0, "10"),
-        (14.142136, "14.1421356"),
-        (0.5, "0.5"),
-        (-0.0, "-0"),
-        (1e9, "1e+09"),
-        (9.313226e-10, "9.31322575e-10"),
+        (10.0, "10", "10.0"),
+        (14.142136, "14.142136", "14.142136"),
+        (0.5, "0.5", "0.5"),
+        (-0.0, "-0", "-0.0"),
+        (1e9, "1000000000", "1000000000.0"),
+        (1e20, "1e20", "1.0e20"),
+        (9.313226e-10, "9.313226e-10", "9.313226e-10"),
+        (-9999.0, "-9999", "-9999.0"),
     ];
-    for (float, text) in written {
-        assert_eq!(nine_digits(float), text);
+    for (float, text, first) in written {
+        assert_eq!((shortest(float).as_str(), with_point(float).as_str()), (text, first));
     }
-    assert_eq!(nine_digits(f32::INFINITY), "inf");
-    assert_eq!(nine_digits(f32::NEG_INFINITY), "-inf");
-    assert_eq!(nine_digits(123_456_790.0), "123456792");
+    assert_eq!(shortest(f32::INFINITY), "inf");
+    assert_eq!(shortest(f32::NEG_INFINITY), "-inf");
 }
 
 /// A sheet of all kinds of floats, written and read as a grid.
@@ -65,21 +79,22 @@ fn a_sheet_comes_back() {
     let row = vec!["1"; 100].join(" ") + "\n";
     let path = folder.join("grid.asc");
     fs::write(&path, header.to_owned() + &row.repeat(50)).unwrap();
-    let place = asc::read(&path, grids::float).unwrap().header;
+    let (place, _) = read_grid::<f32>(&path, None).unwrap();
 
     let cells = floats(5000);
-    fs::write(&path, asc::write(&place, &cells)).unwrap();
-    let back = asc::read(&path, grids::float).unwrap();
+    let stand_ins = StandIns::of(&place, &cells, Unreached::Infinity).unwrap();
+    fs::write(&path, asc::write(&place, &cells, &stand_ins)).unwrap();
+    let (back, back_cells) = read_grid::<f32>(&path, None).unwrap();
     let bits = |cells: &[f32]| -> Vec<Option<u32>> {
         cells.iter().map(|cell| if cell.is_nan() { None } else { Some(cell.to_bits()) }).collect()
     };
-    assert_eq!(bits(&back.cells), bits(&cells));
-    assert_eq!((back.header.rows, back.header.columns, back.header.cell_size), (50, 100, 2.5));
-    assert_eq!(back.header.corner(), place.corner());
-    assert_eq!(place.corner(), Some((3550000.125, -13.75)));
+    assert_eq!(bits(&back_cells), bits(&cells));
+    assert_eq!((back.rows, back.columns, back.cell_size), (50, 100, 2.5));
+    assert_eq!(back.corner, place.corner);
+    assert_eq!(place.corner, Some((3550000.125, -13.75)));
 }
 
-/// A number that is -9999 stays a number: nodata is then written otherwise, and that is said.
+/// A number that is -9999 stays a number: nodata is then another.
 #[test]
 fn a_cell_that_holds_minus_9999() {
     let folder = folder("minus-9999");
@@ -88,23 +103,11 @@ fn a_cell_that_holds_minus_9999() {
     fs::write(folder.join("times.asc"), "ncols 3\nnrows 1\ncellsize 1\nNODATA_value -1\n1 1 1\n").unwrap();
     let search = "value_at_closest_travel_target --targets landings.asc --times times.asc --values values.asc";
     let said = said(&folder, &format!("{search} --out out.asc"));
-    assert!(said.ends_with("a cell holds the number -9999, so the NODATA_value of the sheet is nan\n"), "{said}");
-    assert!(fs::read_to_string(folder.join("out.asc")).unwrap().contains("NODATA_value nan\n"));
-    let back = asc::read(&folder.join("out.asc"), grids::float).unwrap().cells;
+    assert!(said.ends_with("\n1 cells are nodata: -99999 in the sheet\n"), "{said}");
+    assert!(fs::read_to_string(folder.join("out.asc")).unwrap().contains("NODATA_value -99999\n"));
+    let (_, back) = read_grid::<f32>(&folder.join("out.asc"), None).unwrap();
     assert_eq!(back[..2], [-9999.0, -9999.0]);
     assert!(back[2].is_nan());
-}
-
-/// Infinite distances go in as times again.
-#[test]
-fn infinity_is_read_back() {
-    let folder = folder("infinity");
-    grid(&folder, "landings.asc", "1 0 0");
-    grid(&folder, "ditches.asc", "0 1 0");
-    said(&folder, "distance --targets landings.asc --obstacles ditches.asc --diagonals exclude --out times.asc");
-    assert_eq!(cells(&folder, "times.asc"), "0 inf inf");
-    said(&folder, "travel_distance --targets landings.asc --times times.asc --out out.asc");
-    assert_eq!(cells(&folder, "out.asc"), "0 inf inf");
 }
 
 /// The largest grids that the library takes, and those of no cells, which have no picture.
@@ -116,10 +119,10 @@ fn sizes_to_the_bounds() {
         let text = format!("ncols {columns}\nnrows {rows}\ncellsize 10\n{}", row.repeat(rows));
         fs::write(folder.join("landings.asc"), text).unwrap();
         let picture = if rows * columns == 0 { "" } else { " --picture out.png" };
-        let said = said(&folder, &format!("distance --targets landings.asc --out out.asc{picture}"));
+        let (said, _) = noted(&folder, &format!("distance --targets landings.asc --out out.asc{picture}"));
         let zeros = vec!["0"; columns].join(" ") + "\n";
         let expected = format!("ncols {columns}\nnrows {rows}\ncellsize 10\nNODATA_value -9999\n");
-        let expected = if columns == 0 { expected } else { expected + &zeros.repeat(rows) };
+        let expected = if columns == 0 { expected } else { expected + &zeros.repeat(rows).replacen('0', "0.0", 1) };
         assert!(fs::read_to_string(folder.join("out.asc")).unwrap() == expected, "{rows} by {columns}: {said}");
         if !picture.is_empty() {
             let reader = png::Decoder::new(File::open(folder.join("out.png")).unwrap()).read_info().unwrap();

@@ -1,6 +1,6 @@
 //! Document 01's small grids through the tool, so that each search is called as its name says.
 mod common;
-use common::{cells, failure, folder, grid, said};
+use common::{cells, failure, folder, grid, noted};
 
 /// Grids by the options that name their files.
 type Grids<'a> = &'a [(&'a str, &'a str)];
@@ -9,7 +9,7 @@ type Grids<'a> = &'a [(&'a str, &'a str)];
 fn check(name: &str, search: &str, grids: Grids, expected: &str, takes: Option<u64>) {
     let folder = folder(&format!("small-{name}"));
     let words = words(&folder, search, grids);
-    let said = said(&folder, &words);
+    let (said, _) = noted(&folder, &format!("{words} --unreached inf"));
     assert_eq!(cells(&folder, "out.asc"), expected, "{name}");
     if let Some(takes) = takes {
         assert!(said.contains(&format!(": {takes} takes in ")), "{name}: {said}");
@@ -39,7 +39,7 @@ fn distances() {
 fn distances_with_obstacles() {
     let c = [("targets", "1 0 | 0 0"), ("obstacles", "0 1 | 1 0")];
     check("c", "distance --diagonals exclude", &c, "0 inf | inf inf", Some(1));
-    check("c-include", "distance --diagonals include", &c, "0 inf | inf 1.41421354", Some(2));
+    check("c-include", "distance --diagonals include", &c, "0 inf | inf 1.4142135", Some(2));
     check("c-named", "distance_with_obstacles --diagonals exclude", &c, "0 inf | inf inf", Some(1));
     let d = [("targets", "1 0 0"), ("obstacles", "1 0 0")];
     check("d", "distance_with_obstacles --diagonals exclude", &d, "0 1 2", None);
@@ -124,7 +124,7 @@ fn reached() {
     ];
     for (at, (search, grids, expected)) in cases.into_iter().enumerate() {
         let folder = folder(&format!("reached-{at}"));
-        let said = said(&folder, &words(&folder, search, grids));
-        assert!(said.ends_with(&format!(", {expected} cells reached\n")), "{search}: {said}");
+        let (said, _) = noted(&folder, &words(&folder, search, grids));
+        assert!(said.contains(&format!(", {expected} cells reached\n")), "{search}: {said}");
     }
 }

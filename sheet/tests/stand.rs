@@ -4,8 +4,8 @@ use std::fs::{self, File};
 use std::path::{Path, PathBuf};
 
 use common::{folder, said};
+use sheet::grids::read_grid;
 use sheet::ramp;
-use sheet::{asc, grids};
 
 #[allow(dead_code)]
 #[path = "../examples/stand.rs"]
@@ -109,7 +109,7 @@ fn what_the_pictures_show() {
     assert_eq!(exclude.cell(58, 2), WHITE);
     assert_ne!(include.cell(58, 2), WHITE);
 
-    let sheet = asc::read(&folder.join("exclude.asc"), grids::float).unwrap().cells;
+    let (_, sheet) = read_grid::<f32>(&folder.join("exclude.asc"), None).unwrap();
     let greatest = sheet.iter().copied().filter(|cell| cell.is_finite()).fold(0.0, f32::max);
     for (row, column) in [(0, 0), (20, 70), (59, 79), (40, 30)] {
         assert_eq!(exclude.cell(row, column), ramp::colour(sheet[row * 80 + column] / greatest), "{row} {column}");

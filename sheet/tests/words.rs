@@ -3,28 +3,30 @@ mod common;
 use common::{failure, folder, grid, said};
 
 const SEARCHES: [(&str, &str); 10] = [
-    ("distance", "--targets FILE.asc [--obstacles FILE.asc] --diagonals include|exclude [--limit N]"),
-    ("distances_up_to", "--targets FILE.asc --limit N"),
-    ("distance_with_obstacles", "--targets FILE.asc --obstacles FILE.asc --diagonals include|exclude"),
-    ("travel_distance", "--targets FILE.asc --times FILE.asc [--limit N]"),
-    ("travel_distances_up_to", "--targets FILE.asc --times FILE.asc --limit N"),
-    ("value_at_closest_target", "--targets FILE.asc --values FILE.asc"),
-    ("value_at_closest_travel_target", "--targets FILE.asc --times FILE.asc --values FILE.asc [--nodata-starts]"),
+    ("distance", "--targets GRID [--obstacles GRID] --diagonals include|exclude [--limit N] [--limit-metres N]"),
+    ("distances_up_to", "--targets GRID --limit N [--limit-metres N]"),
+    ("distance_with_obstacles", "--targets GRID --obstacles GRID --diagonals include|exclude"),
+    ("travel_distance", "--targets GRID --times GRID [--limit N]"),
+    ("travel_distances_up_to", "--targets GRID --times GRID --limit N"),
+    ("value_at_closest_target", "--targets GRID --values GRID"),
+    ("value_at_closest_travel_target", "--targets GRID --times GRID --values GRID [--nodata-starts]"),
     (
         "value_at_closest_less_than_travel_target",
-        "--targets FILE.asc --times FILE.asc --values FILE.asc --limit N [--nodata-starts]",
+        "--targets GRID --times GRID --values GRID --limit N [--nodata-starts]",
     ),
-    ("sum_within_travel_distance", "--mask FILE.asc --times FILE.asc --values FILE.asc --limit N [--adjacent]"),
-    ("sum_targets_within_travel_distance", "--times FILE.asc --amounts FILE.asc --limit N"),
+    ("sum_within_travel_distance", "--mask GRID --times GRID --values GRID --limit N [--adjacent]"),
+    ("sum_targets_within_travel_distance", "--times GRID --amounts GRID --limit N"),
 ];
 
 /// The options that a help text lists, in order, without the two for the output.
 fn options(help: &str) -> String {
     let lines = help.lines().filter_map(|line| line.strip_prefix("  ").filter(|line| line.starts_with(['-', '['])));
     let options = lines.map(|line| line.split("  ").next().unwrap());
-    let (output, others): (Vec<&str>, Vec<&str>) = options.partition(|option| option.contains("SHEET"));
-    assert_eq!(output, ["--out SHEET.asc", "--picture SHEET.png"]);
-    others.join(" ")
+    let of_all = ["[--nodata-as-0 NAME]", "[--unreached WORD]", "--out SHEET", "--picture SHEET.png"];
+    let listed: Vec<&str> = options.filter(|option| !option.starts_with("--unreached ")).collect();
+    let (own, rest) = listed.split_at(listed.len() - of_all.len());
+    assert_eq!(rest, of_all);
+    own.join(" ")
 }
 
 #[test]
@@ -77,5 +79,29 @@ fn words_that_are_not_understood() {
     ];
     for (words, sentence) in cases {
         assert_eq!(failure(&folder, words), sentence, "`sheet {words}`");
+    }
+}
+
+/// Each help stands alone: it leans on no other search's, and says what is in the files.
+#[test]
+fn each_help_stands_alone() {
+    let folder = folder("help-alone");
+    for (name, _) in SEARCHES {
+        let help = said(&folder, &format!("{name} --help"));
+        assert!(!help.to_lowercase().contains("the same"), "{help}");
+        for word in ["--unreached NUMBER", "--unreached inf", "GeoTIFF", ".prj"] {
+            assert!(help.contains(word), "{name} does not say {word}");
+        }
+        let pack = said(&folder, &format!("case pack {name} --help"));
+        assert!(pack.starts_with(&format!("sheet case pack {name}: ")), "{pack}");
+        assert!(pack.contains("--out CASE.grid") && !pack.contains("--picture"), "{pack}");
+    }
+    for (words, start) in [
+        ("--version", "sheet 0."),
+        ("-V", "sheet 0."),
+        ("case pack --help", "sheet case: "),
+        ("case --help", "sheet case: "),
+    ] {
+        assert!(said(&folder, words).starts_with(start), "{words}");
     }
 }
