@@ -11,23 +11,25 @@ use crate::grids::Case;
 use crate::help;
 use crate::numbers::thousands;
 use crate::options::{self, Asked, Command};
-use crate::output::{Written, write_all};
+use crate::output::{self, Written, write_all};
+use crate::places::Place;
+use crate::said::Said;
 use crate::searches::{self, Run};
 use crate::{asc, picture, refusals};
 
 type Words = std::vec::IntoIter<OsString>;
 
 /// Runs the command that these words are, without the program's name.
-pub fn run(words: impl Iterator<Item = OsString>) -> Result<String, String> {
+pub fn run(words: impl Iterator<Item = OsString>) -> Result<Said, String> {
     let mut words: Words = words.collect::<Vec<_>>().into_iter();
     match next_word(&mut words)?.as_str() {
-        "--help" | "-h" | "help" => Ok(help::top()),
+        "--help" | "-h" | "help" => Ok(Said::Text(help::top())),
         "case" => run_case(words),
         name => {
             let command = options::find_command(name)?;
             match options::read(command, words)? {
                 Some(asked) => make_sheet(&asked),
-                None => Ok(help::of_search(command)),
+                None => Ok(Said::Text(help::of_search(command))),
             }
         }
     }
@@ -38,7 +40,7 @@ fn next_word(words: &mut Words) -> Result<String, String> {
     Ok(word.to_string_lossy().into_owned())
 }
 
-fn make_sheet(asked: &Asked) -> Result<String, String> {
+fn make_sheet(asked: &Asked) -> Result<Said, String> {
     if asked.out.is_none() && asked.picture.is_none() {
         return Err("--out or --picture must say where the sheet goes".to_owned());
     }
@@ -54,25 +56,31 @@ fn make_sheet(asked: &Asked) -> Result<String, String> {
         files.push(Written { path: path.clone(), bytes: picture::draw(&case, &run)? });
     }
     write_all(&files)?;
-    Ok(report(&case, &run, asked))
+    Ok(Said::report(report(&case, &run, asked), &files))
 }
 
-/// No file is written over an input, nor over the other output: that would be a slip.
+/// No file is written over an input, nor over the other output: that would be a slip, however they are spelled.
 fn keep_inputs(asked: &Asked) -> Result<(), String> {
-    let outputs: Vec<&PathBuf> = asked.out.iter().chain(&asked.picture).collect();
-    for output in &outputs {
-        if let Some((role, _)) = asked.grids.iter().find(|(_, input)| is_same(input, output)) {
-            return Err(format!("{} is the file of --{}, and is not written over", output.display(), role.name()));
+    let mut places = Vec::new();
+    for path in asked.out.iter().chain(&asked.picture) {
+        let place = Place::find(path).map_err(|error| output::cannot(path, error))?;
+        if let Some((role, _)) = asked.grids.iter().find(|(_, input)| place.is_input(input)) {
+            return Err(format!("{} is the file of --{}, and is not written over", output::name(path), role.name()));
         }
+        places.push((path, place));
     }
-    match outputs[..] {
-        [out, picture] if is_same(out, picture) => Err(format!("--out and --picture are both {}", out.display())),
+    match &places[..] {
+        [(out, out_place), (picture, picture_place)] if out_place.is_same(picture_place) => Err(same(out, picture)),
         _ => Ok(()),
     }
 }
 
-fn is_same(one: &Path, other: &Path) -> bool {
-    one == other || matches!((one.canonicalize(), other.canonicalize()), (Ok(one), Ok(other)) if one == other)
+fn same(out: &Path, picture: &Path) -> String {
+    if out == picture {
+        format!("--out and --picture are both {}", out.display())
+    } else {
+        format!("--out {} and --picture {} are the same file", out.display(), picture.display())
+    }
 }
 
 fn report(case: &Case, run: &Run, asked: &Asked) -> String {
@@ -91,32 +99,33 @@ fn report(case: &Case, run: &Run, asked: &Asked) -> String {
     text
 }
 
-fn run_case(mut words: Words) -> Result<String, String> {
+fn run_case(mut words: Words) -> Result<Said, String> {
     match words.next().as_ref().and_then(|word| word.to_str()) {
         Some("pack") => {
             let name = next_word(&mut words)?;
             let command = options::find_command(&name)?;
             match options::read(command, words)? {
                 Some(asked) => pack(&asked, command),
-                None => Ok(help::CASE.to_owned()),
+                None => Ok(Said::Text(help::CASE.to_owned())),
             }
         }
-        Some("print") => print(words),
-        Some("--help" | "-h") => Ok(help::CASE.to_owned()),
+        Some("print") => print(words).map(Said::Text),
+        Some("--help" | "-h") => Ok(Said::Text(help::CASE.to_owned())),
         _ => Err("`sheet case` wants `pack` or `print`; `sheet case --help` says more".to_owned()),
     }
 }
 
-fn pack(asked: &Asked, command: &Command) -> Result<String, String> {
+fn pack(asked: &Asked, command: &Command) -> Result<Said, String> {
     if asked.picture.is_some() {
         return Err("a grid file has no picture".to_owned());
     }
     let path = asked.out.clone().ok_or("--out must say where the grid file goes")?;
     keep_inputs(asked)?;
     let bytes = fields::pack(&Case::read(asked)?)?;
-    let said = format!("{}: {} bytes for {}\n", path.display(), bytes.len(), command.name);
-    write_all(&[Written { path, bytes }])?;
-    Ok(said)
+    let report = format!("{}: {} bytes for {}\n", output::name(&path), bytes.len(), command.name);
+    let files = [Written { path, bytes }];
+    write_all(&files)?;
+    Ok(Said::report(report, &files))
 }
 
 fn print(words: Words) -> Result<String, String> {
