@@ -2,7 +2,7 @@
 use std::io::{self, Write};
 use std::process::ExitCode;
 
-use sheet::command;
+use sheet::{command, interrupt};
 
 fn main() -> ExitCode {
     match run() {
@@ -19,6 +19,7 @@ fn main() -> ExitCode {
 
 /// Fails with a sentence, or without one where nobody wants it.
 fn run() -> Result<(), Option<String>> {
+    interrupt::watch().map_err(|error| Some(format!("interrupts can't be watched for: {error}")))?;
     let said = command::run(std::env::args_os().skip(1)).map_err(Some)?;
     said.print().map_err(|error| said.unprinted(&error))
 }

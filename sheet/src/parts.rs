@@ -1,4 +1,5 @@
-//! Files that stand beside their places while they are written, as `.part`.
+//! Files that stand beside their places while they are written, as `.part`. None of them outlives the program, unless
+//! it is killed outright.
 use std::fs::{self, File, Metadata, OpenOptions, Permissions};
 use std::io::{self, ErrorKind};
 use std::os::unix::fs::{MetadataExt, OpenOptionsExt, PermissionsExt, fchown};
@@ -90,6 +91,15 @@ pub fn take_places(parts: &[Part]) -> Result<(), (&Path, io::Error)> {
         there.retain(|path| *path != part.path);
     }
     Ok(())
+}
+
+/// Removes all part files for good: as long as the lock is kept none is made and none takes its place.
+pub fn remove_all() -> MutexGuard<'static, Vec<PathBuf>> {
+    let there = lock();
+    for path in there.iter() {
+        let _ = fs::remove_file(path);
+    }
+    there
 }
 
 /// The list is whole at every moment, so a panic elsewhere spoils nothing.
