@@ -4,9 +4,11 @@
 //! Whatever goes wrong is a sentence that names the file and, where there is one, the row and the column, counted from 1.
 
 pub mod asc;
+pub mod batches;
 pub mod canvas;
 pub mod case;
 pub mod command;
+pub mod estimates;
 pub mod fields;
 pub mod grids;
 pub mod help;
@@ -17,7 +19,9 @@ pub mod output;
 pub mod parts;
 pub mod picture;
 pub mod places;
+pub mod progress;
 pub mod ramp;
 pub mod refusals;
 pub mod said;
 pub mod searches;
+pub mod telling;
