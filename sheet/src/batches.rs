@@ -17,7 +17,7 @@ pub fn mask_cells(mask: Grid<u8>) -> Vec<usize> {
 
 /// Search 7, with the bits of one call. Each mask cell is searched from by itself, and other cells hold 0, so a batch's
 /// sums are those of the whole. Batches come in row order, so the first to be refused for its budget has the mask cell
-/// that one call would name; all other refusals are those of the first batch. `done` hears how many are done of how many.
+/// that one call would name; all other refusals are those of the first batch. `done` hears how many are done of all.
 pub fn sum_within_travel_distance(
     mask: Grid<u8>,
     times: Grid<f32>,

@@ -75,6 +75,7 @@ fn keep_inputs(asked: &Asked) -> Result<(), String> {
     }
 }
 
+/// The sentence for two outputs that are one.
 fn same(out: &Path, picture: &Path) -> String {
     if out == picture {
         format!("--out and --picture are both {}", out.display())

@@ -33,6 +33,7 @@ pub fn write_all(files: &[Written]) -> Result<(), String> {
     parts::take_places(&beside).map_err(|(path, error)| cannot(path, error))
 }
 
+/// Writes a file that is to take this place, and sees it on the disk.
 fn write_beside(place: &Path, replaced: Option<&Metadata>, bytes: &[u8]) -> io::Result<Part> {
     let (part, mut file) = Part::make(place, replaced)?;
     file.write_all(bytes)?;

@@ -48,6 +48,7 @@ impl Part {
         Ok((part, file))
     }
 
+    /// Makes the file and notes it, with no interrupt in between.
     fn make_noted(place: &Path, options: &OpenOptions) -> io::Result<(Part, File)> {
         let mut there = lock();
         for number in 0..NAMES_MAX {

@@ -56,6 +56,7 @@ impl Place {
         }
     }
 
+    /// Whether it is standard output, by whatever name.
     pub fn is_standard_output(&self) -> bool {
         matches!(self, Place::Descriptor { number, .. } if number == "1")
     }
@@ -77,6 +78,7 @@ impl Place {
         }
     }
 
+    /// What it has in common with all other paths to it; none where its folder has gone.
     fn identity(&self) -> Option<Identity> {
         match self {
             Place::File { replaced: Some(metadata), .. }
@@ -90,6 +92,7 @@ impl Place {
     }
 }
 
+/// What all paths to this have in common.
 fn of_what_is_there(metadata: &Metadata) -> Identity {
     match device(metadata) {
         Some(number) if Some(number) == null_device() => Identity::Device(None),
@@ -103,6 +106,7 @@ fn device(metadata: &Metadata) -> Option<u64> {
     metadata.file_type().is_char_device().then(|| metadata.rdev())
 }
 
+/// The number of /dev/null.
 fn null_device() -> Option<u64> {
     device(&fs::metadata("/dev/null").ok()?)
 }
@@ -168,6 +172,7 @@ fn standard(number: &str) -> Option<io::Result<File>> {
     Some(open.map(File::from))
 }
 
+/// The name of the open file with this number.
 fn of_number(number: &str) -> PathBuf {
     Path::new(DESCRIPTORS).join(number)
 }

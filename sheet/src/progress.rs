@@ -31,10 +31,12 @@ pub struct Step {
 pub struct Steps(Option<Sender<Step>>);
 
 impl Steps {
+    /// Whether it is worth while to find out what to say.
     pub fn are_heard(&self) -> bool {
         self.0.is_some()
     }
 
+    /// Tells a step to who hears it.
     pub fn say(&self, step: Step) {
         if let Some(listener) = &self.0 {
             // The listener stays as long as the work does.
@@ -118,6 +120,7 @@ struct Line<W: Write> {
 }
 
 impl<W: Write> Line<W> {
+    /// Writes the text over what stood there.
     fn say(&mut self, text: &str) {
         self.write(format!("\r{text:<width$}", width = self.width));
         self.width = text.chars().count();

@@ -33,6 +33,7 @@ impl Said {
         }
     }
 
+    /// Prints it where it belongs.
     pub fn print(&self) -> io::Result<()> {
         match self {
             Said::Text(text) | Said::Report { text, on: Stream::Output, .. } => {
@@ -55,6 +56,7 @@ impl Said {
     }
 }
 
+/// Whether what was written there went to standard output.
 fn is_standard_output(path: &Path) -> bool {
     Place::find(path).is_ok_and(|place| place.is_standard_output())
 }

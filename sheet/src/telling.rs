@@ -12,8 +12,8 @@ use crate::{batches, estimates};
 /// What is told once an estimate of a search's own has passed.
 const LONGER: &str = "longer than estimated";
 
-/// Tells what a search may last. Search 7 tells that with each batch; search 8 tries a few amounts for it, and is refused
-/// for them as for all.
+/// Tells what a search may last. Search 7 tells that with each batch; search 8 tries a few amounts for it, and is
+/// refused for them as for all.
 pub fn before(case: &Case, steps: &Steps) -> Result<(), Refusal> {
     match case.search {
         Search::SumWithinTravelDistance => {
@@ -43,6 +43,7 @@ pub fn mask_cells(done: usize, all: usize, time: Duration, steps: &Steps) {
     steps.say(Step { what: of_mask_cells(done, all), left: Some(left), passed: LONGER });
 }
 
+/// How far search 7 is, in words.
 fn of_mask_cells(done: usize, all: usize) -> String {
     format!("{} of {} mask cells", thousands(done as u64), thousands(all as u64))
 }
