@@ -10,25 +10,26 @@ use crate::fields;
 use crate::grids::Case;
 use crate::help;
 use crate::options::{self, Asked, Command};
-use crate::output::{Written, write_all};
-use crate::place::Source;
+use crate::outlets::Outlet;
+use crate::output::{self, Written, write_all};
+use crate::said::Said;
 use crate::stand_ins::StandIns;
-use crate::{asc, geotiff, notes, picture, refusals, report, searches};
+use crate::{notes, picture, refusals, report, searches, sheet_file};
 
 type Words = std::vec::IntoIter<OsString>;
 
 /// Runs the command that these words are, without the program's name.
-pub fn run(words: impl Iterator<Item = OsString>) -> Result<String, String> {
+pub fn run(words: impl Iterator<Item = OsString>) -> Result<Said, String> {
     let mut words: Words = words.collect::<Vec<_>>().into_iter();
     match next_word(&mut words)?.as_str() {
-        "--help" | "-h" | "help" => Ok(help::top()),
-        "--version" | "-V" | "version" => Ok(help::version()),
+        "--help" | "-h" | "help" => Ok(Said::Text(help::top())),
+        "--version" | "-V" | "version" => Ok(Said::Text(help::version())),
         "case" => run_case(words),
         name => {
             let command = options::find_command(name)?;
             match options::read(command, words)? {
                 Some(asked) => make_sheet(&asked),
-                None => Ok(help::of_search(command)),
+                None => Ok(Said::Text(help::of_search(command))),
             }
         }
     }
@@ -39,7 +40,7 @@ fn next_word(words: &mut Words) -> Result<String, String> {
     Ok(word.to_string_lossy().into_owned())
 }
 
-fn make_sheet(asked: &Asked) -> Result<String, String> {
+fn make_sheet(asked: &Asked) -> Result<Said, String> {
     if asked.out.is_none() && asked.picture.is_none() {
         return Err("--out or --picture must say where the sheet goes".to_owned());
     }
@@ -49,13 +50,13 @@ fn make_sheet(asked: &Asked) -> Result<String, String> {
     let stand_ins = StandIns::of(&case.first().place, &run.sheet.cells, asked.unreached)?;
     let mut files = Vec::new();
     if let Some(path) = &asked.out {
-        files.extend(sheet_files(path, &case, &run.sheet.cells, &stand_ins)?);
+        files.extend(sheet_file::of(path, &case.first().place, &run.sheet.cells, &stand_ins)?);
     }
     if let Some(path) = &asked.picture {
         files.push(Written { path: path.clone(), bytes: picture::draw(&case, &run)? });
     }
     write_all(&files)?;
-    Ok(report::on(&case, &run, asked, &stand_ins))
+    Ok(Said::report(report::on(&case, &run, asked, &stand_ins), &files))
 }
 
 /// Reads a case, and says what should be known about it.
@@ -67,73 +68,60 @@ fn read_case(asked: &Asked) -> Result<Case, String> {
     Ok(case)
 }
 
-/// The sheet in the format that the file's name says, and the coordinate system beside it, where it came from beside.
-fn sheet_files(path: &Path, case: &Case, cells: &[f32], stand_ins: &StandIns) -> Result<Vec<Written>, String> {
-    let place = &case.first().place;
-    let mut files = Vec::new();
-    let bytes = if geotiff::is_tiff_name(path) {
-        geotiff::write(place, cells, stand_ins)?
-    } else {
-        let beside = path.with_extension("prj");
-        if let Source::Ascii { projection: Some(projection), .. } = &place.source
-            && path != Path::new("-")
-            && !is_same(&projection.path, &beside)
-        {
-            files.push(Written { path: beside, bytes: projection.text.clone() });
-        }
-        asc::write(place, cells, stand_ins).into_bytes()
-    };
-    files.push(Written { path: path.to_owned(), bytes });
-    Ok(files)
-}
-
-/// No file is written over an input, nor over the other output: that would be a slip.
+/// No file is written over an input, nor over the other output: that would be a slip, however they are spelled.
 fn keep_inputs(asked: &Asked) -> Result<(), String> {
-    let outputs: Vec<&PathBuf> = asked.out.iter().chain(&asked.picture).collect();
-    for output in &outputs {
-        if let Some((role, _)) = asked.grids.iter().find(|(_, input)| is_same(input, output)) {
-            return Err(format!("{} is the file of --{}, and is not written over", output.display(), role.name()));
+    let mut outlets = Vec::new();
+    for path in asked.out.iter().chain(&asked.picture) {
+        let outlet = Outlet::find(path).map_err(|error| output::cannot(path, error))?;
+        if let Some((role, _)) = asked.grids.iter().find(|(_, input)| outlet.is_input(input)) {
+            return Err(format!("{} is the file of --{}, and is not written over", output::name(path), role.name()));
         }
+        outlets.push((path, outlet));
     }
-    match outputs[..] {
-        [out, picture] if is_same(out, picture) => Err(format!("--out and --picture are both {}", out.display())),
+    match &outlets[..] {
+        [(out, one), (picture, other)] if one.is_same(other) => Err(same(out, picture)),
         _ => Ok(()),
     }
 }
 
-fn is_same(one: &Path, other: &Path) -> bool {
-    one == other || matches!((one.canonicalize(), other.canonicalize()), (Ok(one), Ok(other)) if one == other)
+fn same(out: &Path, picture: &Path) -> String {
+    if out == picture {
+        format!("--out and --picture are both {}", out.display())
+    } else {
+        format!("--out {} and --picture {} are the same file", out.display(), picture.display())
+    }
 }
 
-fn run_case(mut words: Words) -> Result<String, String> {
+fn run_case(mut words: Words) -> Result<Said, String> {
     match words.next().as_ref().and_then(|word| word.to_str()) {
         Some("pack") => {
             let name = next_word(&mut words)?;
             if ["--help", "-h"].contains(&name.as_str()) {
-                return Ok(help::CASE.to_owned());
+                return Ok(Said::Text(help::CASE.to_owned()));
             }
             let command = options::find_command(&name)?;
             match options::read(command, words)? {
                 Some(asked) => pack(&asked, command),
-                None => Ok(help::of_pack(command)),
+                None => Ok(Said::Text(help::of_pack(command))),
             }
         }
-        Some("print") => print(words),
-        Some("--help" | "-h") => Ok(help::CASE.to_owned()),
+        Some("print") => print(words).map(Said::Text),
+        Some("--help" | "-h") => Ok(Said::Text(help::CASE.to_owned())),
         _ => Err("`sheet case` wants `pack` or `print`; `sheet case --help` says more".to_owned()),
     }
 }
 
-fn pack(asked: &Asked, command: &Command) -> Result<String, String> {
+fn pack(asked: &Asked, command: &Command) -> Result<Said, String> {
     if asked.picture.is_some() {
         return Err("a grid file has no picture".to_owned());
     }
     let path = asked.out.clone().ok_or("--out must say where the grid file goes")?;
     keep_inputs(asked)?;
     let bytes = fields::pack(&read_case(asked)?)?;
-    let said = format!("{}: {} bytes for {}\n", path.display(), bytes.len(), command.name);
-    write_all(&[Written { path, bytes }])?;
-    Ok(said)
+    let report = format!("{}: {} bytes for {}\n", output::name(&path), bytes.len(), command.name);
+    let files = [Written { path, bytes }];
+    write_all(&files)?;
+    Ok(Said::report(report, &files))
 }
 
 fn print(words: Words) -> Result<String, String> {

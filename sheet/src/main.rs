@@ -1,17 +1,25 @@
 //! The program `sheet`. What it prints and how it fails; the work is in the library.
-use std::io::Write;
+use std::io::{self, Write};
 use std::process::ExitCode;
 
+use sheet::{command, interrupt};
+
 fn main() -> ExitCode {
-    match sheet::command::run(std::env::args_os().skip(1)) {
-        // Who reads may have stopped, as `sheet --help | head -1` does.
-        Ok(said) => match std::io::stdout().write_all(said.as_bytes()) {
-            Ok(()) => ExitCode::SUCCESS,
-            Err(_) => ExitCode::FAILURE,
-        },
+    match run() {
+        Ok(()) => ExitCode::SUCCESS,
         Err(sentence) => {
-            eprintln!("sheet: {sentence}");
+            if let Some(sentence) = sentence {
+                // Where nobody hears it the exit status still says that it failed.
+                let _ = writeln!(io::stderr(), "sheet: {sentence}");
+            }
             ExitCode::FAILURE
         }
     }
+}
+
+/// Fails with a sentence, or without one where nobody wants it.
+fn run() -> Result<(), Option<String>> {
+    interrupt::watch().map_err(|error| Some(format!("interrupts can't be watched for: {error}")))?;
+    let said = command::run(std::env::args_os().skip(1)).map_err(Some)?;
+    said.print().map_err(|error| said.unprinted(&error))
 }

@@ -1,7 +1,11 @@
-//! Files are written beside their place first, and take it only when all are there.
-use std::fs::{self, File};
-use std::io::Write;
+//! Files are written beside their places first, and take them only when all are there. What is no regular file is
+//! written to where it is.
+use std::fs::{Metadata, OpenOptions};
+use std::io::{self, Write};
 use std::path::{Path, PathBuf};
+
+use crate::outlets::{self, Outlet, STANDARD_OUTPUT};
+use crate::parts::{self, Part};
 
 /// A file that is to be written.
 pub struct Written {
@@ -9,49 +13,49 @@ pub struct Written {
     pub bytes: Vec<u8>,
 }
 
-/// A file beside its place. It is removed when dropped, unless it has taken its place.
-struct Beside {
-    path: PathBuf,
-    place: PathBuf,
-}
-
-impl Drop for Beside {
-    fn drop(&mut self) {
-        // What took its place is not there any more, and that is no failure.
-        let _ = fs::remove_file(&self.path);
-    }
-}
-
 /// Writes all files or, where one can't be written, none: what stood in their places is then untouched. Only a rename
-/// that fails after another was made, as when a folder is taken away in between, leaves that other one made.
+/// that fails after another was made, as when a folder is taken away in between, leaves that other one made; and what
+/// went into a pipe can't be taken back.
 pub fn write_all(files: &[Written]) -> Result<(), String> {
-    let mut beside = Vec::new();
+    let (mut beside, mut open) = (Vec::new(), Vec::new());
     for file in files {
-        let cannot = |error| format!("{} can't be written: {error}", file.path.display());
-        beside.push(write_beside(file).map_err(cannot)?);
+        let cannot = |error| cannot(&file.path, error);
+        match Outlet::find(&file.path).map_err(cannot)? {
+            Outlet::File { path, replaced } => {
+                beside.push(write_beside(&path, replaced.as_ref(), &file.bytes).map_err(cannot)?)
+            }
+            place => open.push((place, file)),
+        }
     }
-    for file in &beside {
-        fs::rename(&file.path, &file.place)
-            .map_err(|error| format!("{} can't be written: {error}", file.place.display()))?;
+    for (place, file) in open {
+        write_where_it_is(&place, &file.bytes).map_err(|error| cannot(&file.path, error))?;
     }
-    Ok(())
+    parts::take_places(&beside).map_err(|(path, error)| cannot(path, error))
 }
 
-fn write_beside(file: &Written) -> std::io::Result<Beside> {
-    if file.path.is_dir() {
-        return Err(std::io::ErrorKind::IsADirectory.into());
-    }
-    let path = name_beside(&file.path)?;
-    let mut written = File::create_new(&path)?;
-    let beside = Beside { path, place: file.path.clone() };
-    written.write_all(&file.bytes)?;
-    written.sync_all()?;
-    Ok(beside)
+/// Writes a file that is to take this place, and sees it on the disk.
+fn write_beside(place: &Path, replaced: Option<&Metadata>, bytes: &[u8]) -> io::Result<Part> {
+    let (part, mut file) = Part::make(place, replaced)?;
+    file.write_all(bytes)?;
+    file.sync_all()?;
+    Ok(part)
 }
 
-/// A name in the same folder, so that the rename stays within one file system.
-fn name_beside(path: &Path) -> std::io::Result<PathBuf> {
-    let mut name = path.file_name().ok_or(std::io::ErrorKind::InvalidFilename)?.to_owned();
-    name.push(format!(".{}.part", std::process::id()));
-    Ok(path.with_file_name(name))
+/// Writes to what is there already and stays.
+fn write_where_it_is(place: &Outlet, bytes: &[u8]) -> io::Result<()> {
+    let mut file = match place {
+        Outlet::Descriptor { number, .. } => outlets::open_descriptor(number)?,
+        Outlet::File { path, .. } | Outlet::Device { path, .. } => OpenOptions::new().write(true).open(path)?,
+    };
+    file.write_all(bytes)
+}
+
+/// The sentence for an output that can't be written.
+pub fn cannot(path: &Path, error: io::Error) -> String {
+    format!("{} can't be written: {error}", name(path))
+}
+
+/// What an output is called in sentences.
+pub fn name(path: &Path) -> String {
+    if path.as_os_str() == STANDARD_OUTPUT { "standard output".to_owned() } else { path.display().to_string() }
 }

@@ -5,6 +5,8 @@ use haul::{Grid, Refusal, Sheet};
 use search::{Role, Search};
 
 use crate::grids::Case;
+use crate::progress::{self, Steps};
+use crate::{batches, telling};
 
 /// A search that was run.
 #[derive(Debug)]
@@ -18,10 +20,22 @@ pub struct Run {
     pub reached: usize,
 }
 
+/// Runs the case's search, and says on a terminal how far it is.
 pub fn run(case: &Case) -> Result<Run, Refusal> {
+    progress::tell(&format!("search {}", case.search.number()), |steps| run_telling(case, steps))
+}
+
+/// Runs the case's search, and tells its steps to who hears them.
+pub fn run_telling(case: &Case, steps: &Steps) -> Result<Run, Refusal> {
+    if steps.are_heard() {
+        telling::before(case, steps)?;
+    }
     let start = Instant::now();
-    let sheet = search(case)?;
+    let sheet = search(case, steps)?;
     let time = start.elapsed();
+    if steps.are_heard() {
+        telling::after(case, time, steps);
+    }
     let told = told(case, &sheet)?;
     let reached = if case.search == Search::SumWithinTravelDistance {
         reached_from_mask(case)?
@@ -31,7 +45,7 @@ pub fn run(case: &Case) -> Result<Run, Refusal> {
     Ok(Run { sheet, time, told, reached })
 }
 
-fn search(case: &Case) -> Result<Sheet, Refusal> {
+fn search(case: &Case, steps: &Steps) -> Result<Sheet, Refusal> {
     let targets = || case.bytes(Role::Targets);
     let times = || case.floats(Role::Times);
     let values = || case.floats(Role::Values);
@@ -44,6 +58,7 @@ fn search(case: &Case) -> Result<Sheet, Refusal> {
         Search::ValueAtClosestTarget
         | Search::ValueAtClosestTravelTarget
         | Search::ValueAtClosestLessThanTravelTarget => value_at_closest(case, values()),
+        Search::SumWithinTravelDistance if steps.are_heard() => sum_in_batches(case, steps),
         Search::SumWithinTravelDistance => {
             haul::sum_within_travel_distance(case.bytes(Role::Mask), times(), values(), case.limit, case.adjacent)
         }
@@ -51,6 +66,14 @@ fn search(case: &Case) -> Result<Sheet, Refusal> {
             haul::sum_targets_within_travel_distance(times(), case.floats(Role::Amounts), case.limit)
         }
     }
+}
+
+/// Search 7, telling how many mask cells are done.
+fn sum_in_batches(case: &Case, steps: &Steps) -> Result<Sheet, Refusal> {
+    let (mask, times, values) = (case.bytes(Role::Mask), case.floats(Role::Times), case.floats(Role::Values));
+    let start = Instant::now();
+    let done = |done, all| telling::mask_cells(done, all, start.elapsed(), steps);
+    batches::sum_within_travel_distance(mask, times, values, case.limit, case.adjacent, done)
 }
 
 /// Searches 4, 5 and 6 with these values.

@@ -354,3 +354,16 @@ fn no_cells() {
         "a GeoTIFF has at least one cell; a grid without cells can be written as .asc"
     );
 }
+
+/// Nothing goes beside a pipe or a device.
+#[test]
+fn a_coordinate_system_beside_nothing() {
+    let folder = folder("tiff-prj-nothing");
+    placed(&folder);
+    gdal(&folder, "gdal_translate -q -of AAIGrid landings.tif with.asc");
+    said(&folder, "distance --targets with.asc --out /dev/null");
+    assert!(!Path::new("/dev/null.prj").exists());
+    // The grid's own .prj is not written over.
+    said(&folder, "distance --targets with.asc --out with.txt");
+    assert!(folder.join("with.txt").exists() && folder.join("with.prj").exists());
+}

@@ -60,6 +60,8 @@ fn outputs_that_would_be_lost() {
     let sentence = failure(&folder, "distance --targets landings.asc --out ./landings.asc");
     assert_eq!(sentence, "./landings.asc is the file of --targets, and is not written over");
     let sentence = failure(&folder, "distance --targets landings.asc --out out.asc --picture ./out.asc");
+    assert_eq!(sentence, "--out out.asc and --picture ./out.asc are the same file");
+    let sentence = failure(&folder, "distance --targets landings.asc --out out.asc --picture out.asc");
     assert_eq!(sentence, "--out and --picture are both out.asc");
     let sentence = failure(&folder, "distance --targets landings.asc");
     assert_eq!(sentence, "--out or --picture must say where the sheet goes");
