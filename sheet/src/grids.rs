@@ -97,6 +97,11 @@ impl Case {
         self.first().header.cell_size as f32
     }
 
+    /// The unit of the cell size and of distances.
+    pub fn length_unit(&self) -> &'static str {
+        "m"
+    }
+
     /// The grid of bytes with this role, which the search has.
     pub fn bytes(&self, role: Role) -> Grid<'_, u8> {
         match self.layer(role) {
