@@ -10,6 +10,7 @@ pub mod command;
 pub mod fields;
 pub mod grids;
 pub mod help;
+pub mod letters;
 pub mod numbers;
 pub mod options;
 pub mod output;
