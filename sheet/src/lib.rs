@@ -17,4 +17,5 @@ pub mod output;
 pub mod picture;
 pub mod ramp;
 pub mod refusals;
+pub mod round;
 pub mod searches;
