@@ -6,10 +6,12 @@
 pub mod asc;
 pub mod canvas;
 pub mod case;
+pub mod classes;
 pub mod command;
 pub mod fields;
 pub mod grids;
 pub mod help;
+pub mod key;
 pub mod letters;
 pub mod numbers;
 pub mod options;
