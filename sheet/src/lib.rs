@@ -21,3 +21,4 @@ pub mod ramp;
 pub mod refusals;
 pub mod round;
 pub mod searches;
+pub mod view;
