@@ -1,29 +1,33 @@
-//! Pixels to draw on, and a small font for the legend.
-use std::collections::BTreeMap;
+//! Pixels to draw on.
+use crate::letters;
 
 pub type Colour = [u8; 3];
 
 pub const BLACK: Colour = [0, 0, 0];
 pub const WHITE: Colour = [255, 255, 255];
+/// The lines around the map and the samples.
+pub const GREY: Colour = [150, 150, 150];
 
-/// Small letters, digits and a few signs: each the sign on a line of its own, then its eight rows of five pixels.
-const FONT: &str = include_str!("font.txt");
-const GLYPH_ROWS: usize = 8;
-/// From one letter to the next, and the height of a line, in pixels.
-pub const LETTER: usize = 6;
-pub const LINE: usize = GLYPH_ROWS;
-
+/// What is drawn on.
 pub struct Canvas {
     pub width: usize,
     pub height: usize,
     pixels: Vec<Colour>,
-    font: BTreeMap<char, Vec<&'static str>>,
+}
+
+/// A rectangle of pixels.
+#[derive(Clone, Copy, Debug, PartialEq)]
+pub struct Area {
+    pub x: usize,
+    pub y: usize,
+    pub width: usize,
+    pub height: usize,
 }
 
 impl Canvas {
     /// A white canvas.
     pub fn new(width: usize, height: usize) -> Canvas {
-        Canvas { width, height, pixels: vec![WHITE; width * height], font: font() }
+        Canvas { width, height, pixels: vec![WHITE; width * height] }
     }
 
     /// Sets a pixel; outside of the canvas there is none to set.
@@ -42,19 +46,27 @@ impl Canvas {
         }
     }
 
+    /// Fills a rectangle.
     pub fn fill(&mut self, area: Area, colour: Colour) {
         self.fill_with(area, |_, _| colour);
     }
 
-    /// Writes in black; a sign that the font lacks is left blank.
+    /// Draws a grey line around a rectangle, outside of it.
+    pub fn frame(&mut self, inside: Area) {
+        let Area { x, y, width, height } = inside.wider(1);
+        let (right, bottom) = (x + width - 1, y + height - 1);
+        for line in [Area { x, y, width, height: 1 }, Area { x, y: bottom, width, height: 1 }] {
+            self.fill(line, GREY);
+        }
+        for line in [Area { x, y, width: 1, height }, Area { x: right, y, width: 1, height }] {
+            self.fill(line, GREY);
+        }
+    }
+
+    /// Writes in black.
     pub fn text(&mut self, x: usize, y: usize, text: &str) {
-        for (sign, at) in text.chars().zip((x..).step_by(LETTER)) {
-            let rows = self.font.get(&sign).cloned().unwrap_or_default();
-            for (row, down) in rows.iter().zip(0..) {
-                for (_, right) in row.chars().zip(0..).filter(|(pixel, _)| *pixel == '#') {
-                    self.set(at + right, y + down, BLACK);
-                }
-            }
+        for (right, down) in letters::pixels(text) {
+            self.set(x + right, y + down, BLACK);
         }
     }
 
@@ -72,16 +84,35 @@ impl Canvas {
     }
 }
 
-/// A rectangle of pixels.
-#[derive(Clone, Copy)]
-pub struct Area {
-    pub x: usize,
-    pub y: usize,
-    pub width: usize,
-    pub height: usize,
+impl Area {
+    /// The rectangle with so many pixels more on each of its sides.
+    pub fn wider(self, by: usize) -> Area {
+        let [x, y] = [self.x, self.y].map(|start| start.saturating_sub(by));
+        Area { x, y, width: self.x + self.width + by - x, height: self.y + self.height + by - y }
+    }
+
+    /// The square of this width around the middle of a rectangle.
+    pub fn square(self, across: usize) -> Area {
+        let x = (self.x + self.width / 2).saturating_sub(across / 2);
+        let y = (self.y + self.height / 2).saturating_sub(across / 2);
+        Area { x, y, width: across, height: across }
+    }
+
+    /// The rectangle with so many pixels fewer on each of its sides.
+    pub fn narrower(self, by: usize) -> Area {
+        let [width, height] = [self.width, self.height].map(|side| side.saturating_sub(2 * by));
+        Area { x: self.x + by, y: self.y + by, width, height }
+    }
+
+    /// The rectangle moved by as little as puts it into another, along a side where it fits.
+    pub fn moved_into(self, other: Area) -> Area {
+        let x = moved(self.x, self.width, other.x, other.width);
+        let y = moved(self.y, self.height, other.y, other.height);
+        Area { x, y, ..self }
+    }
 }
 
-fn font() -> BTreeMap<char, Vec<&'static str>> {
-    let lines: Vec<&str> = FONT.lines().collect();
-    lines.chunks(1 + GLYPH_ROWS).filter_map(|glyph| Some((glyph[0].chars().next()?, glyph[1..].to_vec()))).collect()
+/// Where one side begins when it is moved into another that begins at `from`.
+fn moved(start: usize, length: usize, from: usize, room: usize) -> usize {
+    if length > room { start } else { start.clamp(from, from + room - length) }
 }
