@@ -5,16 +5,17 @@ use std::path::{Path, PathBuf};
 
 use lexopt::Arg::{Long, Short, Value};
 
-use crate::case;
-use crate::fields;
+use crate::formats::sheet_file;
+use crate::formats::stand_ins::StandIns;
+use crate::gridfile::case;
+use crate::gridfile::fields;
 use crate::grids::Case;
 use crate::help;
 use crate::options::{self, Asked, Command};
-use crate::outlets::Outlet;
+use crate::output::outlets::Outlet;
+use crate::output::said::Said;
 use crate::output::{self, Written, write_all};
-use crate::said::Said;
-use crate::stand_ins::StandIns;
-use crate::{notes, picture, refusals, report, searches, sheet_file};
+use crate::{notes, picture, refusals, report, searches};
 
 type Words = std::vec::IntoIter<OsString>;
 

@@ -5,10 +5,10 @@ use std::path::{Path, PathBuf};
 use haul::{BarrierDiagonals, Grid};
 use search::{BYTE_NODATA, Role, Search};
 
-use crate::cells::Cell;
+use crate::formats::cells::Cell;
+use crate::formats::place::Place;
+use crate::formats::{asc, geotiff};
 use crate::options::{Asked, Limit};
-use crate::place::Place;
-use crate::{asc, geotiff};
 
 /// The inputs of one search.
 #[derive(Debug)]
@@ -104,7 +104,7 @@ impl Case {
         self.first().place.cell_size as f32
     }
 
-    /// What lengths are counted in.
+    /// The unit of the cell size and of distances.
     pub fn length_unit(&self) -> &'static str {
         self.first().place.unit().short()
     }
@@ -150,7 +150,7 @@ fn limit_in_cells(limit: Limit, first: &Layer) -> Result<f32, String> {
     let place = &first.place;
     match limit {
         Limit::Number(limit) => Ok(limit),
-        Limit::Metres(_) if place.unit() != crate::place::Unit::Metres => Err(format!(
+        Limit::Metres(_) if place.unit() != crate::formats::place::Unit::Metres => Err(format!(
             "--limit-metres is for grids in metres, and {} is in {}",
             first.path.display(),
             place.unit().short()

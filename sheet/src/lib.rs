@@ -3,35 +3,16 @@
 //!
 //! Whatever goes wrong is a sentence that names the file and, where there is one, the row and the column, counted from 1.
 
-pub mod asc;
-pub mod batches;
-pub mod canvas;
-pub mod case;
-pub mod cells;
-pub mod chunks;
 pub mod command;
-pub mod estimates;
-pub mod fields;
-pub mod foreign;
-pub mod geokeys;
-pub mod geotiff;
+pub mod formats;
+pub mod gridfile;
 pub mod grids;
 pub mod help;
-pub mod interrupt;
 pub mod notes;
 pub mod numbers;
 pub mod options;
-pub mod outlets;
 pub mod output;
-pub mod parts;
 pub mod picture;
-pub mod place;
-pub mod progress;
-pub mod ramp;
 pub mod refusals;
 pub mod report;
-pub mod said;
 pub mod searches;
-pub mod sheet_file;
-pub mod stand_ins;
-pub mod telling;

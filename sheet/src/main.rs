@@ -2,7 +2,8 @@
 use std::io::{self, Write};
 use std::process::ExitCode;
 
-use sheet::{command, interrupt};
+use sheet::command;
+use sheet::output::interrupt;
 
 fn main() -> ExitCode {
     match run() {

@@ -3,11 +3,11 @@ use std::path::Path;
 
 use search::{Role, Search};
 
+use crate::formats::place::{Source, Unit};
+use crate::formats::{asc, geotiff};
 use crate::grids::{Case, Cells, Layer};
 use crate::numbers::{shortest, thousands};
 use crate::options::{Asked, Limit};
-use crate::place::{Source, Unit};
-use crate::{asc, geotiff};
 
 /// The notes on a case, before it is run.
 pub fn on(case: &Case, asked: &Asked) -> Vec<String> {

@@ -6,8 +6,8 @@ use haul::BarrierDiagonals;
 use lexopt::Arg::{Long, Short, Value};
 use search::{Role, Search};
 
+use crate::formats::stand_ins::Unreached;
 use crate::numbers::read_float;
-use crate::stand_ins::Unreached;
 
 /// A command that runs a search. Two of them, `distance` and `travel_distance`, stand for document 01's forms without a
 /// limit; given one, they are the search with it.

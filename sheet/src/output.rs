@@ -1,11 +1,16 @@
 //! Files are written beside their places first, and take them only when all are there. What is no regular file is
 //! written to where it is.
+pub mod interrupt;
+pub mod outlets;
+pub mod parts;
+pub mod said;
+
 use std::fs::{Metadata, OpenOptions};
 use std::io::{self, Write};
 use std::path::{Path, PathBuf};
 
-use crate::outlets::{self, Outlet, STANDARD_OUTPUT};
-use crate::parts::{self, Part};
+use outlets::{Outlet, STANDARD_OUTPUT};
+use parts::Part;
 
 /// A file that is to be written.
 pub struct Written {

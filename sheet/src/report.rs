@@ -1,9 +1,9 @@
 //! What is said when a sheet is made.
+use crate::formats::stand_ins::{StandIns, Unreached};
 use crate::grids::Case;
 use crate::numbers::{shortest, thousands};
 use crate::options::Asked;
 use crate::searches::Run;
-use crate::stand_ins::{StandIns, Unreached};
 
 /// The report on a run, a few lines.
 pub fn on(case: &Case, run: &Run, asked: &Asked, stand_ins: &StandIns) -> String {

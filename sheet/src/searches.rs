@@ -1,12 +1,16 @@
 //! A case through the library, and which cells it reached.
+pub mod batches;
+pub mod estimates;
+pub mod progress;
+pub mod telling;
+
 use std::time::{Duration, Instant};
 
 use haul::{Grid, Refusal, Sheet};
 use search::{Role, Search};
 
 use crate::grids::Case;
-use crate::progress::{self, Steps};
-use crate::{batches, telling};
+use progress::Steps;
 
 /// A search that was run.
 #[derive(Debug)]

@@ -329,7 +329,7 @@ fn damaged() {
     gdal(&folder, "gdal_translate -q -co COMPRESS=LZW landings.tif whole.tif");
     let whole = fs::read(folder.join("whole.tif")).unwrap();
     let path: PathBuf = folder.join("damaged.tif");
-    let read = |bytes: &[u8]| sheet::geotiff::read::<f32>(&path, bytes, None);
+    let read = |bytes: &[u8]| sheet::formats::geotiff::read::<f32>(&path, bytes, None);
     assert!(read(&whole).is_ok());
     let last = (0..whole.len()).filter(|end| read(&whole[..*end]).is_ok()).count();
     assert!(last < whole.len() / 2, "{last} of {} beginnings are taken for a whole file", whole.len());

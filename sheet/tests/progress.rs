@@ -10,9 +10,10 @@ use std::time::Duration;
 use common::{cells, folder, grid, sheet};
 use haul::{Grid, Refusal, Sheet};
 use sheet::grids::Case;
-use sheet::progress::{Pace, Step, ticking};
+use sheet::options;
+use sheet::searches::progress::{Pace, Step, ticking};
 use sheet::searches::{self, Run};
-use sheet::{batches, estimates, options};
+use sheet::searches::{batches, estimates};
 
 /// Everything is said at once.
 const AT_ONCE: Pace = Pace { first: Duration::ZERO, then: Duration::from_millis(1) };

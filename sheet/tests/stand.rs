@@ -1,11 +1,14 @@
 //! The made-up stand of examples/: its grids, its stored sheets, its pictures.
 mod common;
-use std::fs::{self, File};
+#[path = "common/picture.rs"]
+mod picture;
+use std::fs;
 use std::path::{Path, PathBuf};
 
 use common::{folder, said};
+use picture::{BLACK, Picture, WHITE};
 use sheet::grids::read_grid;
-use sheet::ramp;
+use sheet::picture::ramp;
 
 #[allow(dead_code)]
 #[path = "../examples/stand.rs"]
@@ -23,29 +26,6 @@ const SHEETS: [(&str, &str); 5] = [
     ("landing", "value_at_closest_travel_target --targets landings.asc --times times.asc --values landings.asc"),
     ("timber", "sum_targets_within_travel_distance --times times.asc --amounts volumes.asc --limit 8"),
 ];
-
-struct Picture {
-    width: usize,
-    height: usize,
-    pixels: Vec<[u8; 3]>,
-}
-
-impl Picture {
-    fn read(path: &Path) -> Picture {
-        let mut reader = png::Decoder::new(File::open(path).unwrap()).read_info().unwrap();
-        let mut bytes = vec![0; reader.output_buffer_size()];
-        let frame = reader.next_frame(&mut bytes).unwrap();
-        assert_eq!((frame.color_type, frame.bit_depth), (png::ColorType::Rgb, png::BitDepth::Eight));
-        let (pixels, []) = bytes.as_chunks() else { panic!("a pixel has three bytes") };
-        Picture { width: frame.width as usize, height: frame.height as usize, pixels: pixels.to_vec() }
-    }
-
-    /// The pixel in the middle of a cell, counted from 0. Cells of the stand are 8 pixels wide, and the map begins at
-    /// 12, 32.
-    fn cell(&self, row: usize, column: usize) -> [u8; 3] {
-        self.pixels[(32 + 8 * row + 4) * self.width + 12 + 8 * column + 4]
-    }
-}
 
 /// The sheets, made anew in a folder beside copies of the stand's grids.
 fn make(name: &str) -> PathBuf {
@@ -92,30 +72,52 @@ fn the_script_makes_these_sheets() {
     assert_eq!(script.matches("\nsheet_of ").count(), SHEETS.len());
 }
 
-const BLACK: [u8; 3] = [0, 0, 0];
-const WHITE: [u8; 3] = [255, 255, 255];
+/// Cells of the stand are so many pixels wide.
+const EDGE: usize = 8;
 
 #[test]
 fn what_the_pictures_show() {
     let folder = make("stand-pictures");
     let [include, exclude] = ["include", "exclude"].map(|name| Picture::read(&folder.join(format!("{name}.png"))));
-    for picture in [&include, &exclude] {
-        assert_eq!((picture.width, picture.height), (12 + 80 * 8 + 12 + 150, 32 + 60 * 8 + 12));
-        assert_eq!(picture.cell(0, 30), BLACK, "a ditch");
-        assert_eq!(picture.cell(14, 60), BLACK, "a ditch");
-        assert_eq!(picture.cell(30, 6), WHITE, "the middle of a landing's mark");
+    for (picture, diagonals) in [(&include, "include"), (&exclude, "exclude")] {
+        assert_eq!(picture.find(&format!("distance, diagonals {diagonals}")), [(16, 16)]);
+        assert_eq!(picture.cell(0, 30, EDGE), BLACK, "a ditch");
+        assert_eq!(picture.cell(14, 60, EDGE), BLACK, "a ditch");
+        assert_eq!(picture.map(6 * EDGE + 4, 30 * EDGE + 4), WHITE, "the middle of a landing's mark");
+        for words in ["distance in m", "obstacle", "target", "0", "200", "200 m"] {
+            assert!(picture.says(words), "{words}");
+        }
     }
     // Behind the ditch in the corner: reached between two of its cells, or not at all.
-    assert_eq!(exclude.cell(58, 2), WHITE);
-    assert_ne!(include.cell(58, 2), WHITE);
+    assert_eq!(exclude.cell(58, 2, EDGE), WHITE);
+    assert_ne!(include.cell(58, 2, EDGE), WHITE);
+    assert!(exclude.says("not reached") && !include.says("not reached"));
 
     let (_, sheet) = read_grid::<f32>(&folder.join("exclude.asc"), None).unwrap();
     let greatest = sheet.iter().copied().filter(|cell| cell.is_finite()).fold(0.0, f32::max);
     for (row, column) in [(0, 0), (20, 70), (59, 79), (40, 30)] {
-        assert_eq!(exclude.cell(row, column), ramp::colour(sheet[row * 80 + column] / greatest), "{row} {column}");
+        assert_eq!(
+            exclude.cell(row, column, EDGE),
+            ramp::colour(sheet[row * 80 + column] / greatest),
+            "{row} {column}"
+        );
     }
-    let legend = |line: usize| exclude.pixels[(32 + line) * exclude.width + 12 + 640 + 12 + 9];
-    assert_eq!([legend(0), legend(159)], [ramp::colour(1.0), ramp::colour(0.0)]);
+    // The ends of the ramp stand left of the least number and of the greatest.
+    for (words, part) in [("0", 0.0), ("1,226", 1.0)] {
+        let (x, y) = exclude.find(words)[0];
+        assert_eq!(exclude.at(x - 24, y + 7), ramp::colour(part), "{words}");
+    }
+}
+
+/// Each landing's ground has the colour of its number, which is in the legend.
+#[test]
+fn the_landings_are_classes() {
+    let folder = make("stand-classes");
+    let picture = Picture::read(&folder.join("landing.png"));
+    let [first, second] = ["1", "2"].map(|number| picture.sample(number));
+    assert_eq!([picture.cell(30, 4, EDGE), picture.cell(6, 24, EDGE)], [first, second]);
+    assert_ne!(first, second);
+    assert!(picture.says("value") && picture.says("target"));
 }
 
 /// Read as greys the ramp still tells more from less, and it keeps off the black of ditches and the white of unreached

@@ -2,7 +2,7 @@
 //!
 //! Blue and yellow are told apart by nearly all colour-blind people, and the ramp grows lighter all the way, so that it
 //! can be read, and printed, as greys. Its ends keep off black and white, which mark obstacles and unreached cells.
-use crate::canvas::Colour;
+use crate::picture::canvas::Colour;
 
 const ANCHORS: [Colour; 5] = [[28, 78, 160], [74, 112, 164], [126, 146, 150], [186, 178, 112], [242, 212, 64]];
 

@@ -1,5 +1,5 @@
 //! The tags by which a GeoTIFF says where it lies: pixel scale, tie point, and the keys of its coordinate system.
-use crate::place::{Unit, is_one_number};
+use crate::formats::place::{Unit, is_one_number};
 
 /// Georeferencing tags as they stood in the file, so that a sheet can carry them on.
 #[derive(Clone, Debug, Default, PartialEq)]

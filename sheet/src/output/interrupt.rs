@@ -7,7 +7,7 @@ use signal_hook::consts::{SIGHUP, SIGINT, SIGTERM};
 use signal_hook::iterator::Signals;
 use signal_hook::low_level::emulate_default_handler;
 
-use crate::parts;
+use crate::output::parts;
 
 /// From now on an interrupt leaves no part file, and the program still dies of it, so that a shell sees why.
 pub fn watch() -> io::Result<()> {

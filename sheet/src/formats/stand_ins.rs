@@ -1,7 +1,7 @@
 //! The numbers that stand in a sheet for what is no number: nodata, and cells that can't be reached.
-use crate::asc::rows;
+use crate::formats::asc::rows;
+use crate::formats::place::Place;
 use crate::numbers::{read_float, shortest};
-use crate::place::Place;
 
 /// How a cell that can't be reached is written.
 #[derive(Clone, Copy, Debug, Default, PartialEq)]

@@ -6,8 +6,8 @@ use search::{Role, Search};
 
 use crate::grids::Case;
 use crate::numbers::thousands;
-use crate::progress::{Step, Steps};
-use crate::{batches, estimates};
+use crate::searches::progress::{Step, Steps};
+use crate::searches::{batches, estimates};
 
 /// What is told once an estimate of a search's own has passed.
 const LONGER: &str = "longer than estimated";

@@ -4,7 +4,7 @@ use std::path::PathBuf;
 
 use haul::{Grid, Refusal};
 
-use crate::geokeys::GeoTags;
+use crate::formats::geokeys::GeoTags;
 
 /// Two grids lie on each other if all their corners do, up to so much of a cell: programs write coordinates with more or
 /// fewer digits.

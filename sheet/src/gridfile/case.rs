@@ -4,8 +4,8 @@ use std::fmt::Write;
 use haul::Refusal;
 use search::{BYTE_NODATA, Role, Search};
 
-use crate::asc::rows;
-use crate::fields::{self, FLAGS, Field, GRID, INDEX, NUMBERS, SIZE, STATUS, TAKES};
+use crate::formats::asc::rows;
+use crate::gridfile::fields::{self, FLAGS, Field, GRID, INDEX, NUMBERS, SIZE, STATUS, TAKES};
 use crate::numbers::{shortest, thousands};
 
 /// The rows and columns of a grid file, which an answer file does not repeat.

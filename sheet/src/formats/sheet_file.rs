@@ -1,11 +1,11 @@
 //! The sheet as a file, in the format that its name says, and its coordinate system beside it.
 use std::path::Path;
 
-use crate::outlets::Outlet;
+use crate::formats::place::{Place, Projection, Source};
+use crate::formats::stand_ins::StandIns;
+use crate::formats::{asc, geotiff};
+use crate::output::outlets::Outlet;
 use crate::output::{self, Written};
-use crate::place::{Place, Projection, Source};
-use crate::stand_ins::StandIns;
-use crate::{asc, geotiff};
 
 /// The files that a sheet is: the sheet itself, and for an .asc the .prj that the first grid has beside it.
 pub fn of(path: &Path, place: &Place, cells: &[f32], stand_ins: &StandIns) -> Result<Vec<Written>, String> {

@@ -8,11 +8,11 @@ use std::collections::BTreeMap;
 use std::fs;
 use std::path::Path;
 
-use crate::cells::{Cell, Marks};
-use crate::foreign;
+use crate::formats::cells::{Cell, Marks};
+use crate::formats::foreign;
+use crate::formats::place::{Place, Projection, Source, is_one_number, judge_size, not_square, square_edge};
+use crate::formats::stand_ins::StandIns;
 use crate::numbers::{push_float, with_point};
-use crate::place::{Place, Projection, Source, is_one_number, judge_size, not_square, square_edge};
-use crate::stand_ins::StandIns;
 
 const KEYWORDS: [&str; 10] =
     ["ncols", "nrows", "xllcorner", "xllcenter", "yllcorner", "yllcenter", "cellsize", "dx", "dy", "nodata_value"];

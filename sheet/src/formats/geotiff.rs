@@ -10,12 +10,12 @@ use tiff::encoder::colortype::Gray32Float;
 use tiff::encoder::compression::Deflate;
 use tiff::tags::Tag;
 
-use crate::cells::{Cell, Marks};
-use crate::chunks::Packing;
-use crate::geokeys::GeoTags;
+use crate::formats::cells::{Cell, Marks};
+use crate::formats::chunks::Packing;
+use crate::formats::geokeys::GeoTags;
+use crate::formats::place::{Place, Source, judge_size, not_square, square_edge};
+use crate::formats::stand_ins::StandIns;
 use crate::numbers::shortest;
-use crate::place::{Place, Source, judge_size, not_square, square_edge};
-use crate::stand_ins::StandIns;
 
 /// GDAL's own description of a raster, in markup.
 const GDAL_METADATA: Tag = Tag::Unknown(42_112);

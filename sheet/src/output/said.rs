@@ -2,7 +2,7 @@
 use std::io::{self, ErrorKind, Write};
 use std::path::Path;
 
-use crate::outlets::Outlet;
+use crate::output::outlets::Outlet;
 use crate::output::{self, Written};
 
 /// What a command says.
