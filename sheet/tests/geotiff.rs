@@ -135,6 +135,7 @@ fn between_the_formats() {
     assert_eq!(lie(&folder, "out.asc"), lie(&folder, "landings.asc"));
     said(&folder, "distance --targets landings.asc --out out.tif");
     assert_eq!(lie(&folder, "out.tif"), lie(&folder, "landings.asc"));
+    assert!(!gdal(&folder, "gdalinfo out.tif").contains("Coordinate System"));
     // Mixed inputs lie on each other.
     said(&folder, "distance --targets landings.asc --obstacles landings.tif --diagonals include --out out.asc");
 }

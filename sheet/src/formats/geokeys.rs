@@ -38,12 +38,12 @@ const FEET: std::ops::RangeInclusive<u16> = 9002..=9006;
 const USER_DEFINED: u16 = 32_767;
 
 impl GeoTags {
-    /// Tags for a grid that came from another format: a plain raster with square cells, its coordinate system not said.
+    /// Tags for a grid that came from another format: a plain raster with square cells. It has no key, since one alone
+    /// would be taken for a coordinate system without a name.
     pub fn plain(cell_size: f64, west: f64, north: f64) -> GeoTags {
         GeoTags {
             pixel_scale: vec![cell_size, cell_size, 0.0],
             tie_points: vec![0.0, 0.0, 0.0, west, north, 0.0],
-            directory: vec![1, 1, 0, 1, RASTER_TYPE, 0, 1, 1],
             ..GeoTags::default()
         }
     }
