@@ -1,6 +1,8 @@
 /*
  * Extraction sheets for forwarders: eight searches over grids of a forest, proved in Rattle, for C.
- * Link libhaul_c.a, which `rt staticlib haul_c` writes to target/staticlib.
+ * Link libhaul_c.a, which `rt staticlib haul_c` writes to target/staticlib. It is for x86-64 processors and has no
+ * instruction beyond SSE2, which all of them have. It links into position-independent executables, and takes nothing
+ * from libc but memcpy and memset.
  *
  * Grids. A grid has rows, columns and cells in row-major order; n is rows times columns. Each input grid is passed with
  * its own size, and all must have the same. Bytes: 255 is nodata. Floats: any NaN is nodata, and the searches write a
@@ -208,6 +210,14 @@ uint32_t haul_sum_targets_within_travel_distance(
  * The program `haul` as a call: a grid file goes in, its answer file comes out. A file that does not keep the form is
  * answered by refusal 8. Returns how many bytes stand at the front of the output; what follows them there is as it was.
  * Where the output is shorter than HAUL_ANSWER_MAX nothing is written, and 0 is returned.
+ *
+ * The program can't give an exit status: it ends with 0 also where its answer could not be written. The answer itself
+ * tells that it is whole. Its fields, each a tag of one byte, a length of two (the lower first) and the content, end
+ * exactly where it ends, and after field 0x10, the status, come
+ *   - field 0x12 of 8 bytes, the takes, and field 0x13 of 4 bytes a cell, the grid, if the status is 0;
+ *   - field 0x11 of 4 bytes, the index, if it is 6 or 7;
+ *   - nothing if it is another.
+ * An empty or cut output is no answer.
  */
 uint32_t haul_answer(
     const uint8_t *input, size_t input_len, /* the grid file */

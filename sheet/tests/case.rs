@@ -143,6 +143,46 @@ fn damaged_files() {
     );
 }
 
+/// Where the program could not write all of its answer, what is left is told from a whole one, wherever it ends.
+#[test]
+fn cut_answers() {
+    let folder = folder("case-cut");
+    fs::write(folder.join("case.grid"), bytes(WHOLE_CASE)).unwrap();
+    let file = folder.join("answer.grid");
+    let print = |answer: &[u8], of: &str| {
+        fs::write(&file, answer).unwrap();
+        said(&folder, &format!("case print answer.grid{of}"))
+    };
+    let accepted = "this is no whole answer: after status 0 come field 12 of 8 bytes and field 13 of 4 bytes a cell\n";
+    let whole = bytes(WHOLE_ANSWER);
+    for length in 0..4 {
+        fs::write(&file, &whole[..length]).unwrap();
+        assert!(failure(&folder, "case print answer.grid").contains(" has no field, "), "{length} bytes");
+    }
+    for length in 4..whole.len() {
+        let printed = print(&whole[..length], "");
+        assert!(printed.starts_with("answer file: accepted\n") && printed.ends_with(accepted), "{length}: {printed}");
+    }
+    assert_eq!(print(&whole[..4], ""), format!("answer file: accepted\n{accepted}"));
+    let cut = print(&whole[..30], "");
+    assert_eq!(cut, format!("answer file: accepted\ntakes 2\nand then the field at byte 15 is cut\n{accepted}"));
+
+    let with_index = "this is no whole answer: after status 6 or 7 comes field 11 of 4 bytes\n";
+    let alone = "this is no whole answer: after any status but 0, 6 and 7 comes nothing\n";
+    assert!(print(&bytes("10 01 00 06"), "").ends_with(with_index));
+    assert!(print(&bytes("10 01 00 07 11 03 00 01 00 00"), "").ends_with(with_index));
+    assert!(print(&bytes("10 01 00 08 11 04 00 01 00 00 00"), "").ends_with(alone));
+    assert!(print(&bytes("10 00 00"), "").ends_with("this is no whole answer: the status, field 10, has 1 byte\n"));
+    for answer in ["10 01 00 05", "10 01 00 08", "10 01 00 06 11 04 00 01 00 00 00"] {
+        assert!(!print(&bytes(answer), "").contains("no whole answer"), "{answer}");
+    }
+    // Three cells are an answer, though not to this grid file of four.
+    let mut three = whole[..whole.len() - 4].to_vec();
+    three[16] = 12;
+    assert!(!print(&three, "").contains("no whole answer"));
+    assert!(print(&three, " --of case.grid").ends_with(accepted));
+}
+
 #[test]
 fn grids_that_no_file_holds() {
     let folder = folder("case-large");

@@ -22,8 +22,14 @@ pub fn print(bytes: &[u8], size: Option<Size>) -> Result<String, String> {
         }
         None => return Err("has no field, so it is neither a grid file nor an answer file".to_owned()),
     };
-    if let Some(cut) = cut {
+    if let Some(cut) = &cut {
         writeln!(text, "and then {cut}").expect("text takes all");
+    }
+    if fields[0].tag == STATUS {
+        let (whole, form) = form_of_answer(&fields, size);
+        if cut.is_some() || !whole {
+            writeln!(text, "this is no whole answer: {form}").expect("text takes all");
+        }
     }
     if fields[0].tag == FLAGS && status(&haul::answer_file(bytes)) == Some(8) {
         text += "haul refuses this file by 8: it does not keep the file form\n";
@@ -135,6 +141,25 @@ fn print_bytes(field: &Field) -> String {
 
 fn print_answer(fields: &[Field], size: Option<Size>) -> String {
     fields.iter().map(|field| print_output(field, size)).collect()
+}
+
+/// Whether the fields are those of a whole answer, and which these are. `haul` has no way to say that it could not write all
+/// of its answer, so its reader has to look.
+fn form_of_answer(fields: &[Field], size: Option<Size>) -> (bool, &'static str) {
+    let lengths: Vec<(u8, usize)> = fields.iter().map(|field| (field.tag, field.content.len())).collect();
+    let holds_grid = |length: usize| match size {
+        Some((rows, columns)) => length == 4 * usize::from(rows) * usize::from(columns),
+        None => length.is_multiple_of(4),
+    };
+    match fields[0].exactly() {
+        Some([0]) => (
+            matches!(lengths[..], [_, (TAKES, 8), (GRID, length)] if holds_grid(length)),
+            "after status 0 come field 12 of 8 bytes and field 13 of 4 bytes a cell",
+        ),
+        Some([6 | 7]) => (matches!(lengths[..], [_, (INDEX, 4)]), "after status 6 or 7 comes field 11 of 4 bytes"),
+        Some([_]) => (lengths.len() == 1, "after any status but 0, 6 and 7 comes nothing"),
+        None => (false, "the status, field 10, has 1 byte"),
+    }
 }
 
 /// One field of an answer file; where its content is not of its form, its bytes.
