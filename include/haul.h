@@ -223,6 +223,21 @@ uint32_t haul_answer(
     const uint8_t *input, size_t input_len, /* the grid file */
     uint8_t *output, size_t output_len);    /* out: the answer file */
 
+/*
+ * Whether floats are what the proofs suppose: rounded to nearest even, and small ones not taken for 0. A program that was
+ * linked with -Ofast or -ffast-math, or that set the processor so, gets other answers from the same archive: a time of
+ * -1e-40 is then no time below 0. Ask once, in each thread that changes how floats are computed, with these two numbers:
+ * they are given so that no compiler works out the answer before the call runs.
+ *
+ *     if (!haul_keeps_binary32(HAUL_ONE, HAUL_LEAST)) { ... }
+ */
+#define HAUL_ONE 1.0f
+#define HAUL_LEAST 1.40129846e-45f /* the least float above 0 */
+
+uint32_t haul_keeps_binary32(
+    float one,    /* HAUL_ONE */
+    float least); /* HAUL_LEAST; returns 1 where floats are kept, else 0 */
+
 #ifdef __cplusplus
 }
 #endif

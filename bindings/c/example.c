@@ -63,6 +63,10 @@ static void print_sheet(const char *title, float cell_size, uint32_t diagonals) 
 }
 
 int main(void) {
+    if (!haul_keeps_binary32(HAUL_ONE, HAUL_LEAST)) {
+        fprintf(stderr, "floats are not computed as the searches need it: was this linked with -Ofast?\n");
+        return 1;
+    }
     print_sheet("Between two ditch cells that meet at a corner there is a way:", 10.0f, HAUL_DIAGONALS_INCLUDE);
     print_sheet("There is none:", 10.0f, HAUL_DIAGONALS_EXCLUDE);
     print_sheet("With cells of no size:", 0.0f, HAUL_DIAGONALS_EXCLUDE);

@@ -36,7 +36,7 @@ mod workspace;
 pub use grid::{BarrierDiagonals, Grid, Sheet};
 pub use refusal::{Place, Refusal};
 pub use searches::{
-    answer_file, distance_with_obstacles, distances_up_to, sum_targets_within_travel_distance,
+    answer_file, distance_with_obstacles, distances_up_to, keeps_binary32, sum_targets_within_travel_distance,
     sum_within_travel_distance, travel_distances_up_to, value_at_closest_less_than_travel_target,
     value_at_closest_target, value_at_closest_travel_target,
 };

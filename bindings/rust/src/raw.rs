@@ -35,6 +35,15 @@ pub fn answer(input: &[u8], output: &mut [u8]) -> u32 {
     unsafe { haul_answer(input.as_ptr(), input.len(), output.as_mut_ptr(), output.len()) }
 }
 
+/// 1 where floats are rounded to nearest even and small ones are not taken for 0, given 1 and the least float above 0; else 0.
+pub fn keeps_binary32(one: f32, least: f32) -> u32 {
+    unsafe extern "C" {
+        fn haul_keeps_binary32(_: f32, _: f32) -> u32;
+    }
+    // SAFETY: the export takes numbers alone and touches no memory.
+    unsafe { haul_keeps_binary32(one, least) }
+}
+
 /// For each search: its grids, its numbers and flags, its work buffers. All have the answer before the work buffers,
 /// and after them the queue, the takes and the index. A grid is passed as rows, columns, pointer and length, a lent
 /// slice as pointer and length.

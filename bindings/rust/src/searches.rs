@@ -1,4 +1,6 @@
 //! The searches, with all that they need allocated for the caller.
+use std::hint::black_box;
+
 use crate::workspace::cells_of;
 use crate::{BarrierDiagonals, Grid, Refusal, Sheet, Workspace, raw};
 
@@ -109,4 +111,13 @@ pub fn answer_file(input: &[u8]) -> Vec<u8> {
     let length = raw::answer(input, &mut output) as usize;
     output.truncate(length);
     output
+}
+
+/// Whether floats are what the proofs suppose, in the thread that asks: rounded to nearest even, and small ones not taken for 0.
+///
+/// A program that C code with `-ffast-math` was linked into may have set the processor otherwise. The searches then give
+/// other answers, so who can't rule it out asks once.
+pub fn keeps_binary32() -> bool {
+    let least_above_0 = f32::from_bits(1);
+    raw::keeps_binary32(black_box(1.0), black_box(least_above_0)) == 1
 }

@@ -11,4 +11,5 @@ pub mod Costs
 pub mod NearestRoot
 pub mod RootOfTwo
 pub mod StepCosts
+pub mod Kept
 pub mod Cases

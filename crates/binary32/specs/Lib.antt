@@ -3,3 +3,4 @@ pub mod Numbers
 pub mod Steps
 pub mod FromZero
 pub mod NearestRoot
+pub mod Environment

@@ -6,6 +6,7 @@
 // nearest to the root of 2 (`STRAIGHT`, `DIAGONAL`, and the theorem of proofs/RootOfTwo.antt). Its laws on binary32 (order, rounding, sums, products, exact
 // results) are in proofs/, for the crates above.
 mod bits;
+mod environment;
 mod nodata;
 mod numbers;
 mod steps;
@@ -13,6 +14,7 @@ mod steps;
 pub use bits::NAN_BITS;
 pub use bits::bits_of;
 pub use bits::of_bits;
+pub use environment::keeps_binary32;
 pub use nodata::is_nodata;
 pub use nodata::nan;
 pub use nodata::one_nan;
