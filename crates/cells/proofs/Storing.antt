@@ -13,7 +13,7 @@ use mir.Val.{SFits}
 use Rattle.rules.specs.declared.Size.{Size}
 use Rattle.rules.specs.Cells.{offsets, index, row-of, col-of, within, neighbour}
 use Rattle.cells.specs.Neighbours.{CellOf, Place, place-of}
-use Rattle.cells.specs.Storing.{InGrid, Step, Stepping, Neighbour, At, Outside, cells-at, Leads, Stored}
+use Rattle.cells.specs.Storing.{InGrid, Step, Stepping, Neighbour, At, Outside, cells-at, Leads, LeadsBy, Stored}
 use Rattle.fifo.proofs.Lists.{holds}
 use Rattle.cells.proofs.Bounds.{Bounded, bounded, read, side-same}
 use Rattle.cells.proofs.Edges.{Inside, inside, inside-is-side, row-between, col-between, place-row, place-col}
@@ -134,6 +134,15 @@ pub leads-at :
     {size : Size} {row col : ℤ} (offset : List ℤ) {there : Neighbour} → Leads size row col (row-part offset) (col-part offset) there
     → (u : ℕ) → row ≡ pos (row-of size u) → col ≡ pos (col-of size u) → cells-at there ≡ neighbour size u offset
 leads-at {size} offset to u row-is col-is = to .leads u row-is col-is ∙ neighbour-parts size u offset
+
+-- The i-th neighbour from a cell's place.
+pub leads-by :
+    {size : Size} {place : Place} (i : ℕ) {there : Neighbour}
+    → (let offset = getD offsets i [] in Leads size (read (place .row)) (read (place .col)) (read (row-part offset)) (read (col-part offset)) there)
+    → LeadsBy size place i there
+leads-by {size} i to = record {
+  leads = λ u cell is. leads-at (getD offsets i []) (leads-by-step (step-at steps i) to) u (place-row size u cell is) (place-col size u cell is);
+}
 
 module _
     {size : Size} {row col : ℤ} (place : InGrid size row col) (i : ℕ) {there : Neighbour}

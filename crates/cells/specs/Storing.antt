@@ -9,6 +9,7 @@ use lib.Seq.{sets}
 use Rattle.rules.specs.declared.Size.{Size}
 use Rattle.rules.specs.Sizes.{in-bounds}
 use Rattle.rules.specs.Cells.{offsets, row-of, col-of, within, neighbour}
+use Rattle.cells.specs.Neighbours.{CellOf, Place, place-of}
 pub use Rattle.cells.specs.declared.neighbours.Neighbour.{Neighbour}
 pub use Rattle.cells.specs.declared.neighbours.Neighbour.the-variants.{At, Outside}
 
@@ -38,6 +39,15 @@ cells-at Outside = []
 -- From the cell at that row and column the offset leads to the neighbour that is told.
 pub record Leads (size : Size) (row col down across : ℤ) (there : Neighbour) : Type 0 where
   pub leads : (u : ℕ) → row ≡ pos (row-of size u) → col ≡ pos (col-of size u) → cells-at there ≡ neighbour size u (down ∷ across ∷ [])
+
+-- What going to the i-th neighbour starts from: a cell's place, and an offset of the table.
+pub record FromPlace (size : Size) (place : Place) (i : ℕ) : Type 0 where
+  pub cell : (u : ℕ) × CellOf size u × (place ≡ place-of size u)
+  pub offset-in : i < 8
+
+-- From the cell at that place the i-th offset leads to the neighbour that is told.
+pub record LeadsBy (size : Size) (place : Place) (i : ℕ) (there : Neighbour) : Type 0 where
+  pub leads : (u : ℕ) → CellOf size u → place ≡ place-of size u → cells-at there ≡ neighbour size u (getD offsets i [])
 
 -- What storing one neighbour starts from: a place in the grid, the i-th offset, and a free entry.
 pub record Storing (size : Size) (row col : ℤ) (found i : ℕ) : Type 0 where

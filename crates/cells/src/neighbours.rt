@@ -4,7 +4,7 @@ ghost use mathlib.Core.Path.{_≡_};
 ghost use lib.Signed.{mag};
 ghost use Rattle.rules.specs.Cells as Cells;
 ghost use Rattle.cells.specs.Neighbours.{CellOf, place-of, Lists};
-ghost use Rattle.cells.specs.Storing.{InGrid, Stepping, Leads, Storing, Stored};
+ghost use Rattle.cells.specs.Storing.{InGrid, Stepping, Leads, FromPlace, LeadsBy, Storing, Stored};
 ghost use Rattle.cells.specs.Interior.{Interior, Between, SaysInner, SaysInterior};
 
 // The offsets of the neighbours, row and column each, in the order in which they are tried.
@@ -82,6 +82,15 @@ pub fn neighbour_at(size: Size, row: i32, col: i32, down: i32, across: i32) -> N
     Neighbour::At(index(size, to_row, to_col))
 }
 
+// The neighbour at the i-th offset of the table from a cell's place, in the order in which they are tried.
+pub fn nth_neighbour(size: Size, place: Place, i: usize) -> Neighbour
+    requires { ⌜ FromPlace size place i ⌝ }
+    ensures { λ r. ⌜ LeadsBy size place i r ⌝ }
+{
+    let offset = OFFSETS[i];
+    neighbour_at(size, place.row, place.col, offset[0], offset[1])
+}
+
 // Stores the neighbour at the i-th offset from a row and a column, where it is in the grid, behind
 // those that were found.
 fn store_neighbour(
@@ -139,7 +148,7 @@ fn is_inner(end: i32, k: i32) -> bool
 }
 
 // Whether a cell is at no edge.
-fn is_interior(size: Size, cell: u32) -> bool
+pub fn is_interior(size: Size, cell: u32) -> bool
     requires { ⌜ CellOf size cell ⌝ }
     ensures { λ r. ⌜ SaysInterior size cell r ⌝ }
 {
@@ -148,7 +157,7 @@ fn is_interior(size: Size, cell: u32) -> bool
 }
 
 // The neighbours of a cell at no edge: all eight are there, so that no more is tested.
-fn interior_neighbours(size: Size, cell: u32) -> Neighbours
+pub fn interior_neighbours(size: Size, cell: u32) -> Neighbours
     requires { ⌜ Interior size cell ⌝ }
     ensures { λ r. ⌜ Lists size cell r ⌝ }
 {

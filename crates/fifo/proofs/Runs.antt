@@ -12,7 +12,7 @@ use Rattle.fifo.proofs.Induction.{by-takes, run-zero, takes-zero, trace
 
 module _ {L : Type 0} (net : Net L) where
   -- A run of n + k takes is a run of n takes and then one of k.
-  run-add : (n k : ℕ) (s : State L) → run net (n + k) s ≡ run net k (run net n s)
+  pub run-add : (n k : ℕ) (s : State L) → run net (n + k) s ≡ run net k (run net n s)
   run-add n k =
       by-takes net (λ n s. run net (n + k) s ≡ run net k (run net n s))
       (λ s. rw (zero-add, run-zero))

@@ -101,7 +101,7 @@ began-decides p q =
     held-decides (begun-good (p .begun)) (begun-good (q .begun)) (begun-initial (p .begun) []) (begun-initial (q .begun) [])
     (λ no-value. equation-decides (p .kept no-value) (q .kept no-value))
 
--- ---- `take_cell`
+-- ---- `take_by_half_sum`, `take_by_time_or_quarter`
 
 -- Two takes take the same cell at the same distance, and leave buffers that hold the same.
 pub record SameTake (search : Search) (after₁ after₂ : Buffers) (a b : TakenCell) : Type 0 where

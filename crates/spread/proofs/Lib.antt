@@ -6,12 +6,14 @@ pub mod Relaxing
 pub mod Rules
 pub mod Permits
 pub mod Scans
+pub mod EdgeScans
 pub mod Taking
 pub mod Firsts
 pub mod Beginning
 pub mod BeginningFrom
 pub mod Finishing
 pub mod Running
+pub mod Making
 pub mod Tracing
 pub mod Agrees
 pub mod Results

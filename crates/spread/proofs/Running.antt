@@ -1,10 +1,10 @@
 -- The whole run: the buffers hold what the machine's run holds, take by take, until nothing waits. Assumes nothing.
 use mathlib.Core.Bool.{Bool, true, false, not}
 use mathlib.Core.List.{List, [], _∷_}
-use mathlib.Core.Logic.{inr, ⊎-elim}
+use mathlib.Core.Logic.{⊎-elim}
 use mathlib.Core.Path.{_≡_, refl, sym, ap, _∙_, subst}
 use Prim.Native.Nat.{ℕ, suc, _+_, _-_, _*_, _<_}
-use native.Mathlib.Nat.{mul-le-mul, lt-irrefl, lt-of-le-of-lt}
+use native.Mathlib.Nat.{mul-le-mul, lt-of-le-of-lt}
 use native.Mathlib.Omega.{arith}
 use borrow.Author.Tests.{not-true, not-false}
 use lib.Dec.{T, lit<}
@@ -16,20 +16,19 @@ use Rattle.cells.specs.Ring.{contents, none, SaysEmpty}
 use Rattle.cells.proofs.Bounds.{bounded}
 use Rattle.fifo.specs.Machine.{Net, initial, run, takes}
 use Rattle.fifo.proofs.Induction.{run-zero, takes-zero}
-use Rattle.fifo.proofs.Lists.{true-or-false, same-or-not, empty-or-not}
+use Rattle.fifo.proofs.Lists.{true-or-false, empty-or-not}
 use Rattle.fifo.proofs.Runs.{run-last, takes-last}
 use Rattle.rules.specs.declared.Size.{Size}
 use Rattle.rules.specs.Sizes.{in-bounds, count}
 use Rattle.rules.specs.Values.{Carried}
 use Rattle.spread.specs.declared.search.Search.{Search}
 use Rattle.spread.specs.declared.take.TakenCell.{TakenCell}
-use Rattle.spread.specs.declared.take.TakenSome.{TakenSome}
 use Rattle.spread.specs.Nets.{carries}
 use Rattle.spread.specs.Buffers.{Buffers, Good, Holds}
 use Rattle.spread.specs.Steps.{Terrain, terrain}
 use Rattle.spread.specs.First.{net-on}
 use Rattle.spread.specs.Begin.{BeganTo}
-use Rattle.spread.specs.Loop.{Setting, Taking, TookCell, Ready, Passed, TookUpTo, Running, Ran}
+use Rattle.spread.specs.Loop.{Setting, Taking, TookCell, Ready, Running, Ran}
 pub use Rattle.spread.specs.Loop.{Turn}
 use Rattle.spread.specs.Promise.{grids, Spreads, Spread}
 use Rattle.spread.proofs.Lengths.{carried-length-kept}
@@ -42,7 +41,7 @@ pub square-fits : (size : Size) → T (in-bounds size) → {n : ℕ} → n ≡ c
 square-fits size bounds counted = let most = bounded size bounds .cells-most in rw counted (record { fits = lt-of-le-of-lt (mul-le-mul most most) (lit< tt) })
 
 -- Where nothing waits after so many takes, the loop has run.
-ended-turn :
+pub ended-turn :
     {search : Search} {ground : Terrain} {before b : Buffers} {r : ℕ} → Turn search ground before b r → contents (b .queue) (b .ring) ≡ []
     → Ran search ground before (b .distances) (b .carried) (b .marks) (b .queue) r
 ended-turn turn none-waits = record {
@@ -119,54 +118,6 @@ module _ {search : Search} {ground : Terrain} {before : Buffers} where
     -- Then the loop has run.
     pub ran : not answer ≡ false → Ran search ground before (b .distances) (b .carried) (b .marks) (b .queue) r
     ran nothing = ended-turn turn (none-left (not-false answer nothing))
-
--- ---- some takes, one or all
-
-module _ {search : Search} {ground : Terrain} {most : ℕ} {before : Buffers} where
-  pub none-passed : {took : TakenCell} → Good search before → Passed search ground most before before took 0
-  none-passed good = record { few = omega arith; turn = no-turn good; untouched = λ none-yet. refl; one = λ one-yet. absurd (lt-irrefl 0 (omega arith)) }
-
-  module _ {b : Buffers} {took : TakenCell} {r : ℕ} (passed : Passed search ground most before b took r) {answer : Bool} (empty : SaysEmpty (b .ring) answer) where
-    pub some-passed : Setting search ground → answer ≡ false → Taking search ground b
-    some-passed setting something = turn-takes (passed .turn) empty (ap not something) setting
-
-    pub more-passed : {after : Buffers} {took′ : TakenCell} → r < most → answer ≡ false → TookCell search ground b after took′ → Passed search ground most before after took′ (r + 1)
-    more-passed {after} {took′} below something taken = record {
-      few = omega arith;
-      turn = next-turn (passed .turn) empty (ap not something) taken;
-      untouched = λ none-yet. absurd (lt-irrefl 0 (omega arith));
-      one = λ one-yet. subst (λ first. TookCell search ground first after took′) (passed .untouched (omega arith)) taken;
-    }
-
-    pub passed-empty : answer ≡ true → TookUpTo search ground most before b (record { took = took; takes = r })
-    passed-empty nothing = record { passed = passed; no-more = inr (none-left (passed .turn) empty nothing) }
-
--- One take of one that is to be made is it. Proof: none was made only if nothing waited.
-pub one-taken :
-    {search : Search} {ground : Terrain} {before after : Buffers} {some : TakenSome}
-    → Taking search ground before → TookUpTo search ground 1 before after some → TookCell search ground before after (some .took)
-one-taken {before = before} {after} {some} takes took = ⊎-elim (took .passed .one) (λ none-waits. ⊎-elim (λ none-yet. absurd (waited none-waits none-yet)) (λ some-yet. took .passed .one (let few = took .passed .few in omega (arith, some-yet))) (same-or-not (some .takes) 0)) (took .no-more)
-  where
-    waited : contents (after .queue) (after .ring) ≡ [] → some .takes ≡ 0 → ⊥
-    waited none-waits none-yet =
-        let none-before : contents (before .queue) (before .ring) ≡ [] = subst (λ b. contents (b .queue) (b .ring) ≡ []) (took .passed .untouched none-yet) none-waits in
-        let long = takes .some in
-        let short : length (contents (before .queue) (before .ring)) ≡ 0 = ap length none-before in
-        omega arith
-
--- Where the square were taken, nothing waits: the machine would take one more.
-pub all-taken :
-    {search : Search} {ground : Terrain} {before after : Buffers} {some : TakenSome} {most : ℕ} → most ≡ count (search .size) * count (search .size)
-    → (net : Net Carried) × Ready search ground net before → TookUpTo search ground most before after some
-    → Ran search ground before (after .distances) (after .carried) (after .marks) (after .queue) (some .takes)
-all-taken {search} {ground} {before} {after} {some} {most} square (net, ready) took =
-    ended-turn (took .passed .turn) (⊎-elim (λ all. ⊎-elim (λ none-waits. none-waits) (one-more all) (empty-or-not (contents (after .queue) (after .ring)))) (λ none-waits. none-waits) (took .no-more))
-  where
-    one-more : some .takes ≡ most → (u : ℕ) × (ws : List ℕ) × (contents (after .queue) (after .ring) ≡ u ∷ ws) → contents (after .queue) (after .ring) ≡ []
-    one-more all (u, ws, first) =
-        let made = takes-last net (some .takes) (initial net) u ws (took .passed .turn .taken net ready .holds .waiting ∙ first) in
-        let bound = ready .within (some .takes + 1) in
-        absurd (lt-irrefl 0 (omega arith))
 
 -- ---- from the beginning to the end
 

@@ -16,10 +16,9 @@ use Rattle.rules.specs.Cells.{keep}
 use Rattle.rules.specs.Values.{Carried}
 use Rattle.rules.specs.Sizes.{grid}
 use Rattle.rules.proofs.Neighbours.{steps-append, step-if}
-use Rattle.spread.specs.declared.search.Rule.{Rule}
 use Rattle.spread.specs.declared.search.Search.{Search}
 use Rattle.spread.specs.declared.relax.Left.{Left}
-use Rattle.spread.specs.Steps.{Terrain, entering, may-straight, may-diagonal, avoided-number, Numbers, numbers-of, may-enter, blocked-by, may-step, length-of}
+use Rattle.spread.specs.Steps.{Terrain, entering, may-straight, may-diagonal, avoided-number, Numbers, may-enter, blocked-by, may-step, length-of}
 use Rattle.spread.specs.Steps.{straight-steps, diagonal-steps, steps-by, MayAsk, Timed}
 use Rattle.spread.specs.Buffers.{Buffers, Good, Holds, Does, relaxing, scanning}
 use Rattle.spread.specs.Loop.{left-label, listed-steps, Entering, Scanning}
@@ -37,7 +36,7 @@ does-nothing {search} {b = b} good same = record {
   kept = λ no-value. refl;
 }
 
-does-as :
+pub does-as :
     {search : Search} {operation same : Net Carried → State Carried → State Carried} {before after : Buffers}
     → ((net : Net Carried) (t : State Carried) → operation net t ≡ same net t) → Does search operation before after → Does search same before after
 does-as {search} {after = after} equal does = record {
@@ -46,7 +45,7 @@ does-as {search} {after = after} equal does = record {
   kept = does .kept;
 }
 
-does-both :
+pub does-both :
     {search : Search} {first then both : Net Carried → State Carried → State Carried} {before between after : Buffers}
     → Does search first before between → Does search then between after
     → ((net : Net Carried) (t : State Carried) → then net (first net t) ≡ both net t)
@@ -67,7 +66,7 @@ module _ (search : Search) (ground : Terrain) (u : ℕ) where
       cond diagonally (may-diagonal (search .rule) obstacles u v) (may-straight (search .rule) obstacles v)
 
   -- Those to the cells of two lists.
-  steps-of-both :
+  pub steps-of-both :
       (diagonally : Bool) (l m : List ℕ)
       → steps-by search ground diagonally u (l ++ m) ≡ steps-by search ground diagonally u l ++ steps-by search ground diagonally u m
   unfolding straight-steps diagonal-steps
@@ -90,7 +89,7 @@ module _ (search : Search) (left : Left) {steps : List (ℕ × (Carried → Carr
   unfolding scan
   one-tried only = does-as (λ net t. ap (λ l. scan net (left-label search left) l t) (sym only))
 
-  none-tried : {b : Buffers} → steps ≡ [] → Good search b → Does search (scanning (left-label search left) steps) b b
+  pub none-tried : {b : Buffers} → steps ≡ [] → Good search b → Does search (scanning (left-label search left) steps) b b
   unfolding scan
   none-tried none good = does-nothing good (λ net t. ap (λ l. scan net (left-label search left) l t) (sym none))
 
@@ -241,22 +240,6 @@ module _ (search : Search) (ground : Terrain) (left : Left) (cells : List ℕ) (
       does-as (λ net t. ap (λ n. scan net (left-label search left) (listed-steps search ground (left .cell) cells n k) t) all)
 
 -- ---- what the callees ask
-
--- Where the rule is known, so are its numbers.
-pub scans-as :
-    {search : Search} {by : Numbers} {ground : Terrain} {u : ℕ} {cells : List ℕ} {middle end : ℕ} {b : Buffers} {rule : Rule}
-    → Scanning search by ground u cells middle end b → search .rule ≡ rule → Scanning search (numbers-of rule) ground u cells middle end b
-scans-as scans is-rule =
-    record {
-      numbered = sym (ap numbers-of is-rule);
-      good = scans .good;
-      setting = scans .setting;
-      source = scans .source;
-      inside = scans .inside;
-      eight = scans .eight;
-      middle-most = scans .middle-most;
-      end-most = scans .end-most;
-    }
 
 module _
     {search : Search} {by : Numbers} {ground : Terrain} {u : ℕ} {cells : List ℕ} {middle end : ℕ} {first b : Buffers}

@@ -1,4 +1,4 @@
--- The cells that a run takes, one after the other: what a loop over `take_cell` needs that does something with each. Assumes nothing.
+-- The cells that a run takes, one after the other: what a loop of one's own needs that does something with each. Assumes nothing.
 use mathlib.Core.Bool.{Bool, true, not}
 use mathlib.Core.List.{[], _∷_, _++_, map, map-append}
 use mathlib.Core.Path.{_≡_, sym, ap, _∙_, subst}

@@ -1,24 +1,27 @@
 -- What the functions of the loop ask and promise, from one neighbour to the whole run. Definitions only.
 use mathlib.Core.Bool.{Bool, true, false, cond}
 use mathlib.Core.List.{List, [], _∷_, _++_, map}
-use mathlib.Core.Logic.{_⊎_}
 use mathlib.Core.Path.{_≡_}
 use Prim.Native.Nat.{ℕ, _-_, _*_, _≤_, _<_}
 use lib.Dec.{T}
 use lib.Ieee.{Float, nan}
 use lib.ListN.{length, getD, set, take, drop}
-use Rattle.cells.specs.Ring.{contents}
+use Rattle.cells.specs.Interior.{Interior}
+use Rattle.cells.specs.Ring.{contents, RingGood}
+use Rattle.cells.specs.declared.neighbours.Neighbour.{Neighbour}
+use Rattle.cells.specs.declared.neighbours.Neighbour.the-variants.{At}
+use Rattle.cells.specs.declared.ring.Ring.{Ring}
 use Rattle.fifo.specs.Machine as machine
 use Rattle.fifo.specs.Machine.{Net, State, initial, run, takes, trace}
+use Rattle.fifo.specs.Walk.{In}
+use Rattle.rules.specs.declared.Size.{Size}
 use Rattle.rules.specs.Sizes.{in-bounds, count}
 use Rattle.rules.specs.Values.{Carried}
-use Rattle.spread.specs.declared.search.Rule.{Rule}
 use Rattle.spread.specs.declared.search.Search.{Search}
 use Rattle.spread.specs.declared.relax.Left.{Left}
 use Rattle.spread.specs.declared.take.TakenCell.{TakenCell}
-use Rattle.spread.specs.declared.take.TakenSome.{TakenSome}
 use Rattle.spread.specs.Nets.{carries, reads-times, labels-of}
-use Rattle.spread.specs.Steps.{Terrain, labelled, avoids, Numbers, numbers-of, straight-steps, diagonal-steps, Follows}
+use Rattle.spread.specs.Steps.{Terrain, paired, labelled, avoids, Numbers, numbers-of, straight-steps, diagonal-steps, Follows}
 use Rattle.spread.specs.Waiting.{Joining, Joined}
 use Rattle.spread.specs.Buffers.{Buffers, Good, Holds}
 use Rattle.spread.specs.Begin.{Lengths}
@@ -73,21 +76,54 @@ abbrev pub listed-steps : Search → Terrain → ℕ → List ℕ → ℕ → �
 listed-steps search ground u cells middle end =
     straight-steps search ground u (take middle cells) ++ diagonal-steps search ground u (take (end - middle) (drop middle cells))
 
+-- From the cell u all neighbours are to be tried.
+pub record ScanningAll (search : Search) (by : Numbers) (ground : Terrain) (u : ℕ) (b : Buffers) : Type 0 where
+  pub numbered : by ≡ numbers-of (search .rule)
+  pub good : Good search b
+  pub setting : Setting search ground
+  pub source : u < count (search .size)
+
+-- Of these the one that is told of, if any.
+pub record EnteringThere (search : Search) (by : Numbers) (ground : Terrain) (u : ℕ) (there : Neighbour) (b : Buffers) : Type 0 where
+  pub scans : ScanningAll search by ground u b
+  pub inside : (v : ℕ) → there ≡ At v → v < count (search .size)
+
 -- A cell's label can be read.
-pub record CanLeave (rule : Rule) (distances carried : List Float) (cell : ℕ) : Type 0 where
+pub record CanLeave (carrying : Bool) (distances carried : List Float) (cell : ℕ) : Type 0 where
   pub distance-inside : cell < length distances
-  pub value-inside : carries rule ≡ true → cell < length carried
+  pub value-inside : carrying ≡ true → cell < length carried
 
 -- The cell, with its label.
-pub record LeftCell (rule : Rule) (distances carried : List Float) (cell : ℕ) (left : Left) : Type 0 where
+pub record LeftCell (carrying : Bool) (distances carried : List Float) (cell : ℕ) (left : Left) : Type 0 where
   pub same-cell : left .cell ≡ cell
-  pub label : labelled rule (left .distance) (left .value) ≡ labelled rule (getD distances cell nan) (getD carried cell nan)
+  pub label : paired carrying (left .distance) (left .value) ≡ paired carrying (getD distances cell nan) (getD carried cell nan)
+
+-- The ring holds cells of the grid.
+pub record Looking (size : Size) (queue : List ℕ) (ring : Ring) : Type 0 where
+  pub bounds : T (in-bounds size)
+  pub in-slots : RingGood queue ring
+  pub inside : (c : ℕ) → In c (contents queue ring) → c < count size
+
+-- Where the answer is yes, a cell waits, and the one that is next is at no edge. Where it is no, nothing is said.
+pub record SaysNextInner (size : Size) (queue : List ℕ) (ring : Ring) (answer : Bool) : Type 0 where
+  pub some : answer ≡ true → 0 < length (contents queue ring)
+  pub inner : answer ≡ true → (u : ℕ) (ws : List ℕ) → contents queue ring ≡ u ∷ ws → Interior size u
 
 -- A cell is to be taken.
 pub record Taking (search : Search) (ground : Terrain) (b : Buffers) : Type 0 where
   pub good : Good search b
   pub setting : Setting search ground
   pub some : 0 < length (contents (b .queue) (b .ring))
+
+-- The same, by the numbers of the rule.
+pub record TakingBy (search : Search) (by : Numbers) (ground : Terrain) (b : Buffers) : Type 0 where
+  pub takes : Taking search ground b
+  pub numbered : by ≡ numbers-of (search .rule)
+
+-- The same, and the cell that is next is at no edge.
+pub record TakingInner (search : Search) (by : Numbers) (ground : Terrain) (b : Buffers) : Type 0 where
+  pub asked : TakingBy search by ground b
+  pub inner : (u : ℕ) (ws : List ℕ) → contents (b .queue) (b .ring) ≡ u ∷ ws → Interior (search .size) u
 
 -- The head was taken, with the distance that it had, in whatever net has the rule's steps.
 pub record TookCell (search : Search) (ground : Terrain) (before after : Buffers) (took : TakenCell) : Type 0 where
@@ -121,22 +157,27 @@ pub record Turn (search : Search) (ground : Terrain) (before b : Buffers) (r : �
   pub taken : (net : Net Carried) → Ready search ground net before → AfterTakes search net b r
   pub kept : carries (search .rule) ≡ false → b .carried ≡ before .carried
 
+-- r takes were made, in whatever net has the rule's steps, and whatever state the buffers held.
+pub record Made (search : Search) (ground : Terrain) (before after : Buffers) (r : ℕ) : Type 0 where
+  pub good : Good search after
+  pub holds : (net : Net Carried) → Follows search ground net → (t : State Carried) → Holds search t before → Holds search (run net r t) after
+  pub all : (net : Net Carried) → Follows search ground net → (t : State Carried) → Holds search t before → takes net r t ≡ r
+  pub kept : carries (search .rule) ≡ false → after .carried ≡ before .carried
+
 -- Cells are to be taken, if any wait.
 pub record TakingSome (search : Search) (ground : Terrain) (b : Buffers) : Type 0 where
   pub good : Good search b
   pub setting : Setting search ground
 
--- r were taken, no more than `most`; where none was, nothing changed, and where one was, that is its take.
-pub record Passed (search : Search) (ground : Terrain) (most : ℕ) (before after : Buffers) (took : TakenCell) (r : ℕ) : Type 0 where
-  pub turn : Turn search ground before after r
-  pub few : r ≤ most
-  pub untouched : r ≡ 0 → after ≡ before
-  pub one : r ≡ 1 → TookCell search ground before after took
+-- The same, by the numbers of the rule.
+pub record TakingSomeBy (search : Search) (by : Numbers) (ground : Terrain) (b : Buffers) : Type 0 where
+  pub some : TakingSome search ground b
+  pub numbered : by ≡ numbers-of (search .rule)
 
--- So many were taken, `most` or until nothing waited.
-pub record TookUpTo (search : Search) (ground : Terrain) (most : ℕ) (before after : Buffers) (some : TakenSome) : Type 0 where
-  pub passed : Passed search ground most before after (some .took) (some .takes)
-  pub no-more : (some .takes ≡ most) ⊎ (contents (after .queue) (after .ring) ≡ [])
+-- r were taken, no more than `most`.
+pub record TookUpTo (search : Search) (ground : Terrain) (most : ℕ) (before after : Buffers) (r : ℕ) : Type 0 where
+  pub made : Made search ground before after r
+  pub few : r ≤ most
 
 -- The loop is to run: there is a net that they are ready for.
 pub record Running (search : Search) (ground : Terrain) (b : Buffers) : Type 0 where

@@ -43,8 +43,11 @@ abbrev pub entering : Search → List Float → ℕ → Float → ℕ → Carrie
 entering search times u = carrying (formula (search .rule) (sized search times) u)
 
 -- The label of a cell at a distance, with the value that goes along where the rule carries one.
+abbrev pub paired : Bool → Float → Float → Carried
+paired carrying distance value = (distance, cond carrying value nan)
+
 abbrev pub labelled : Rule → Float → Float → Carried
-labelled rule distance value = (distance, cond (carries rule) value nan)
+labelled rule = paired (carries rule)
 
 -- Whether a rule reads the grid of obstacles.
 abbrev pub avoids : Rule → Bool
@@ -111,6 +114,13 @@ numbers formula avoided carrying = record { formula = formula; avoided = avoided
 abbrev pub numbers-of : Rule → Numbers
 numbers-of rule = numbers (formula-number rule) (avoided-number rule) (carries rule)
 
+-- What it is given where the formula is d + (s / 2) * (a + b), and where it is the last: nothing is avoided, and nothing goes along.
+abbrev pub half-sum-numbers : Numbers
+half-sum-numbers = numbers 1 0 false
+
+abbrev pub time-or-quarter-numbers : Numbers
+time-or-quarter-numbers = numbers 3 0 false
+
 -- The candidate, by the number of the formula.
 abbrev pub formula-by : ℕ → Grid Float → ℕ → Float → ℕ → Float → Float
 formula-by n times u s v d =
@@ -149,14 +159,15 @@ diagonal-steps search ground u vs =
 abbrev pub steps-by : Search → Terrain → Bool → ℕ → List ℕ → List (ℕ × (Carried → Carried))
 steps-by search ground diagonally u vs = cond diagonally (diagonal-steps search ground u vs) (straight-steps search ground u vs)
 
+-- All steps from u: the straight ones, then the diagonal ones.
+abbrev pub all-steps : Search → Terrain → ℕ → List (ℕ × (Carried → Carried))
+all-steps search ground u =
+    straight-steps search ground u (straight-neighbours (search .size) u) ++ diagonal-steps search ground u (diagonal-neighbours (search .size) u)
+
 -- The net's order is by distance, and its neighbours are these steps.
 pub record Follows (search : Search) (ground : Terrain) (net : Net Carried) : Type 0 where
   pub nearest : net .below ≡ nearer
-  pub steps :
-      (u : ℕ)
-      → net .nbrs u
-      ≡ straight-steps search ground u (straight-neighbours (search .size) u)
-      ++ diagonal-steps search ground u (diagonal-neighbours (search .size) u)
+  pub steps : (u : ℕ) → net .nbrs u ≡ all-steps search ground u
 
 -- ---- what the code of the tests asks and promises
 

@@ -5,18 +5,20 @@
 // (specs/Promise.antt). Each function below it promises that the buffers hold, after it, the machine's
 // operation on the state that they held before (specs/Buffers.antt).
 //
-// `begin_cells` and `take_cell` are for a loop of one's own that does something with each cell that is
-// taken: proofs/Running.antt and proofs/Tracing.antt have the laws for it.
+// `begin_cells`, `take_by_half_sum` and `take_by_time_or_quarter` are for a loop of one's own that does something
+// with each cell that is taken: proofs/Running.antt and proofs/Tracing.antt have the laws for it.
 mod begin;
 mod first;
 mod formulas;
 mod relax;
 mod run;
 mod scan;
-mod scan_all;
+mod scan_edge;
 mod search;
 mod steps;
 mod take;
+mod take_edge;
+mod take_inner;
 mod waiting;
 
 pub use begin::begin_cells;
@@ -25,4 +27,5 @@ pub use run::spread;
 pub use search::Rule;
 pub use search::Search;
 pub use take::TakenCell;
-pub use take::take_cell;
+pub use take::take_by_half_sum;
+pub use take::take_by_time_or_quarter;

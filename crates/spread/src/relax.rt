@@ -1,6 +1,5 @@
 // One neighbour is tried: its candidate is stored if it is below the neighbour's distance.
 use crate::formulas::candidate;
-use crate::search::Rule;
 use crate::search::Search;
 use crate::steps::is_blocked;
 use crate::steps::may_enter;
@@ -13,7 +12,6 @@ ghost use mathlib.Core.Bool.{true, cond};
 ghost use mathlib.Core.List.{[], _∷_};
 ghost use Prim.Native.Nat.{_<_};
 ghost use lib.ListN.{length, set};
-ghost use Rattle.spread.specs.Nets as net;
 ghost use Rattle.spread.specs.Steps.{terrain, numbers, length-of, steps-by};
 ghost use Rattle.spread.specs.Buffers.{buffers, scanning, Does};
 ghost use Rattle.spread.specs.Loop.{left-label, Storing, Stored, Entering};
@@ -23,21 +21,6 @@ pub struct Left {
     pub cell: u32,
     pub distance: f32,
     pub value: f32,
-}
-
-// Whether a value goes along.
-pub fn carries(rule: Rule) -> bool
-    ensures { λ r. ⌜ r ≡ net.carries rule ⌝ }
-{
-    match rule {
-        Rule::Plain => false,
-        Rule::Obstacles(_) => false,
-        Rule::HalfSum => false,
-        Rule::Closest => true,
-        Rule::ByTime => true,
-        Rule::FromMaskCell(_) => false,
-        Rule::FromAmount(_) => false,
-    }
 }
 
 // Stores the value that goes along, if one does.

@@ -1,15 +1,17 @@
 // The loop: cells are taken until nothing waits.
 use crate::begin::begin_cells;
 use crate::search::Search;
-use crate::take::take_some;
+use crate::take_edge::take_edge_by_rule;
+use crate::take_inner::take_inner_by_rule;
 use cells::Ring;
 use cells::cell_count;
+use cells::is_empty;
 ghost use Rattle.spread.specs.Steps.{terrain};
 ghost use Rattle.spread.specs.Buffers.{buffers};
 ghost use Rattle.spread.specs.Loop.{Running, Ran};
 ghost use Rattle.spread.specs.Promise.{grids, Spreads, Spread};
 
-// Takes cells until nothing waits; the answer is how many were taken.
+// Takes cells until nothing waits; the answer is how many were taken. Those at no edge are taken in a loop of their own.
 fn run(
     search: Search,
     obstacles: &[u8],
@@ -26,18 +28,42 @@ fn run(
         (now (distances .exit)) (now (carried .exit)) (now (marks .exit)) (now (queue .exit)) r ⌝ }
 {
     let cells = cell_count(search.size) as u64;
-    let some = take_some(
-        search,
-        obstacles,
-        times,
-        distances,
-        carried,
-        marks,
-        queue,
-        ring,
-        cells * cells,
-    );
-    some.takes
+    let most = cells * cells;
+    let mut waiting = ring;
+    let mut takes: u64 = 0;
+    while takes < most {
+        let some = take_inner_by_rule(
+            search,
+            obstacles,
+            times,
+            distances,
+            carried,
+            marks,
+            queue,
+            waiting,
+            most - takes,
+        );
+        waiting = some.ring;
+        takes += some.takes;
+        if takes < most {
+            if is_empty(waiting) {
+                return takes;
+            }
+            let took = take_edge_by_rule(
+                search,
+                obstacles,
+                times,
+                distances,
+                carried,
+                marks,
+                queue,
+                waiting,
+            );
+            waiting = took.ring;
+            takes += 1;
+        }
+    }
+    takes
 }
 
 // Spreads from the starting cells over the whole grid: the distances, the values that go along, and the answer, how many cells were taken.

@@ -1,4 +1,4 @@
-// The neighbours of a cell are tried, the straight ones first.
+// The listed neighbours of a cell are tried, the straight ones first.
 use crate::relax::Left;
 use crate::relax::relax;
 use crate::search::Search;
@@ -8,7 +8,7 @@ ghost use Rattle.spread.specs.Buffers.{buffers, scanning, Does};
 ghost use Rattle.spread.specs.Loop.{left-label, listed-steps, Scanning};
 
 // Tries the listed cells before `count`: those before `straight` straight, the others diagonally.
-fn scan_listed(
+pub fn scan_listed(
     search: Search,
     formula: u8,
     avoided: u8,
@@ -54,66 +54,4 @@ fn scan_listed(
         k += 1;
     }
     waiting
-}
-
-// The same. Nearly all cells have all eight neighbours, and for these the bounds are constants to the compiler.
-pub fn scan(
-    search: Search,
-    formula: u8,
-    avoided: u8,
-    carrying: bool,
-    obstacles: &[u8],
-    times: &[f32],
-    left: Left,
-    cells: &[u32; 8],
-    straight: usize,
-    count: usize,
-    distances: &mut [f32],
-    carried: &mut [f32],
-    marks: &mut [u8],
-    queue: &mut [u32],
-    ring: Ring,
-) -> Ring
-    requires { ⌜ Scanning search (numbers formula avoided carrying) (terrain (now obstacles) (now times)) (left .cell) (now cells) straight count
-        (buffers (now distances) (now carried) (now marks) (now queue) ring) ⌝ }
-    ensures { λ r. ⌜ Does search (scanning (left-label search left) (listed-steps search (terrain (now (obstacles .entry)) (now (times .entry))) (left .cell) (now (cells .entry)) straight count))
-        (buffers (now (distances .entry)) (now (carried .entry)) (now (marks .entry)) (now (queue .entry)) ring)
-        (buffers (now (distances .exit)) (now (carried .exit)) (now (marks .exit)) (now (queue .exit)) r) ⌝ }
-{
-    if straight == 4 && count == 8 {
-        return scan_listed(
-            search,
-            formula,
-            avoided,
-            carrying,
-            obstacles,
-            times,
-            left,
-            cells,
-            4,
-            8,
-            distances,
-            carried,
-            marks,
-            queue,
-            ring,
-        );
-    }
-    scan_listed(
-        search,
-        formula,
-        avoided,
-        carrying,
-        obstacles,
-        times,
-        left,
-        cells,
-        straight,
-        count,
-        distances,
-        carried,
-        marks,
-        queue,
-        ring,
-    )
 }

@@ -1,16 +1,21 @@
-// One take: the cell that waited longest is taken, and its neighbours are tried.
+// One take: the cell that waited longest is taken, and its neighbours are tried. A cell at no edge goes a faster way.
+use crate::formulas::PLUS_HALF_SUM;
+use crate::formulas::PLUS_TIME_OR_QUARTER;
 use crate::relax::Left;
-use crate::relax::carries;
-use crate::scan_all::scan_by_rule;
-use crate::search::Rule;
+use crate::scan::scan_listed;
+use crate::scan_edge::scan_edge;
 use crate::search::Search;
+use crate::steps::NOTHING;
 use crate::waiting::take_first;
 use cells::Ring;
+use cells::interior_neighbours;
 use cells::is_empty;
-use cells::neighbours_of;
-ghost use Rattle.spread.specs.Steps.{terrain};
+use cells::is_interior;
+use cells::take;
+use rules::Size;
+ghost use Rattle.spread.specs.Steps.{terrain, numbers, half-sum-numbers, time-or-quarter-numbers};
 ghost use Rattle.spread.specs.Buffers.{buffers};
-ghost use Rattle.spread.specs.Loop.{CanLeave, LeftCell, Taking, TookCell, TakingSome, TookUpTo};
+ghost use Rattle.spread.specs.Loop.{CanLeave, LeftCell, Looking, SaysNextInner, TakingBy, TakingInner, TookCell};
 
 // A taken cell, the distance that it had when it was taken, and the ring afterwards.
 pub struct TakenCell {
@@ -20,13 +25,13 @@ pub struct TakenCell {
 }
 
 // The label of a cell: its distance, and the value that goes along if one does.
-fn leave(rule: Rule, distances: &[f32], carried: &[f32], cell: u32) -> Left
-    requires { ⌜ CanLeave rule (now distances) (now carried) cell ⌝ }
-    ensures { λ r. ⌜ LeftCell rule (now (distances .entry)) (now (carried .entry)) cell r ⌝ }
+fn leave(carrying: bool, distances: &[f32], carried: &[f32], cell: u32) -> Left
+    requires { ⌜ CanLeave carrying (now distances) (now carried) cell ⌝ }
+    ensures { λ r. ⌜ LeftCell carrying (now (distances .entry)) (now (carried .entry)) cell r ⌝ }
 {
     let at = cell as usize;
     let distance = distances[at];
-    if carries(rule) {
+    if carrying {
         return Left {
             cell,
             distance,
@@ -40,9 +45,24 @@ fn leave(rule: Rule, distances: &[f32], carried: &[f32], cell: u32) -> Left
     }
 }
 
-// Takes the cell that waited longest, and tries its neighbours.
-fn take_one(
+// Whether a cell waits, and the one that is next is at no edge.
+pub fn is_next_inner(size: Size, queue: &[u32], ring: Ring) -> bool
+    requires { ⌜ Looking size (now queue) ring ⌝ }
+    ensures { λ r. ⌜ SaysNextInner size (now (queue .entry)) ring r ⌝ }
+{
+    if is_empty(ring) {
+        return false;
+    }
+    let next = take(queue, ring);
+    is_interior(size, next.cell)
+}
+
+// Takes the next cell, which is at no edge.
+pub fn take_inner_cell(
     search: Search,
+    formula: u8,
+    avoided: u8,
+    carrying: bool,
     obstacles: &[u8],
     times: &[f32],
     distances: &mut [f32],
@@ -51,7 +71,7 @@ fn take_one(
     queue: &mut [u32],
     ring: Ring,
 ) -> TakenCell
-    requires { ⌜ Taking search (terrain (now obstacles) (now times)) (buffers (now distances) (now carried) (now marks) (now queue) ring) ⌝ }
+    requires { ⌜ TakingInner search (numbers formula avoided carrying) (terrain (now obstacles) (now times)) (buffers (now distances) (now carried) (now marks) (now queue) ring) ⌝ }
     ensures { λ r. ⌜ TookCell search (terrain (now (obstacles .entry)) (now (times .entry)))
         (buffers (now (distances .entry)) (now (carried .entry)) (now (marks .entry)) (now (queue .entry)) ring)
         (buffers (now (distances .exit)) (now (carried .exit)) (now (marks .exit)) (now (queue .exit)) (r .ring)) r ⌝ }
@@ -59,17 +79,19 @@ fn take_one(
     let taken = take_first(marks, queue, ring);
     let cell = taken.cell;
     let rest = taken.ring;
-    let rule = search.rule;
-    let left = leave(rule, distances, carried, cell);
-    let around = neighbours_of(search.size, cell);
-    let waiting = scan_by_rule(
+    let left = leave(carrying, distances, carried, cell);
+    let around = interior_neighbours(search.size, cell);
+    let waiting = scan_listed(
         search,
+        formula,
+        avoided,
+        carrying,
         obstacles,
         times,
         left,
         &around.cells,
-        around.straight,
-        around.count,
+        4,
+        8,
         distances,
         carried,
         marks,
@@ -83,16 +105,12 @@ fn take_one(
     }
 }
 
-// The last cell that was taken, and how many were.
-pub struct TakenSome {
-    pub took: TakenCell,
-    pub takes: u64,
-}
-
-// Takes cells until nothing waits, at most so many. The one loop for those who take one cell at a time and for
-// those who take all, so that the compiler puts a take in line here.
-pub fn take_some(
+// Takes the next cell, at an edge or not.
+pub fn take_edge_cell(
     search: Search,
+    formula: u8,
+    avoided: u8,
+    carrying: bool,
     obstacles: &[u8],
     times: &[f32],
     distances: &mut [f32],
@@ -100,41 +118,39 @@ pub fn take_some(
     marks: &mut [u8],
     queue: &mut [u32],
     ring: Ring,
-    most: u64,
-) -> TakenSome
-    requires { ⌜ TakingSome search (terrain (now obstacles) (now times)) (buffers (now distances) (now carried) (now marks) (now queue) ring) ⌝ }
-    ensures { λ r. ⌜ TookUpTo search (terrain (now (obstacles .entry)) (now (times .entry))) most
+) -> TakenCell
+    requires { ⌜ TakingBy search (numbers formula avoided carrying) (terrain (now obstacles) (now times)) (buffers (now distances) (now carried) (now marks) (now queue) ring) ⌝ }
+    ensures { λ r. ⌜ TookCell search (terrain (now (obstacles .entry)) (now (times .entry)))
         (buffers (now (distances .entry)) (now (carried .entry)) (now (marks .entry)) (now (queue .entry)) ring)
-        (buffers (now (distances .exit)) (now (carried .exit)) (now (marks .exit)) (now (queue .exit)) (r .took .ring)) r ⌝ }
+        (buffers (now (distances .exit)) (now (carried .exit)) (now (marks .exit)) (now (queue .exit)) (r .ring)) r ⌝ }
 {
-    let mut took = TakenCell {
-        cell: 0,
-        distance: 0.0,
-        ring,
-    };
-    let mut takes: u64 = 0;
-    while takes < most {
-        let waiting = took.ring;
-        if is_empty(waiting) {
-            return TakenSome { took, takes };
-        }
-        took = take_one(
-            search,
-            obstacles,
-            times,
-            distances,
-            carried,
-            marks,
-            queue,
-            waiting,
-        );
-        takes += 1;
+    let taken = take_first(marks, queue, ring);
+    let cell = taken.cell;
+    let rest = taken.ring;
+    let left = leave(carrying, distances, carried, cell);
+    let waiting = scan_edge(
+        search,
+        formula,
+        avoided,
+        carrying,
+        obstacles,
+        times,
+        left,
+        distances,
+        carried,
+        marks,
+        queue,
+        rest,
+    );
+    TakenCell {
+        cell,
+        distance: left.distance,
+        ring: waiting,
     }
-    TakenSome { took, takes }
 }
 
-// Takes the cell that waited longest, and tries its neighbours.
-pub fn take_cell(
+// Takes the next cell where the formula is half the step times the sum of both times.
+pub fn take_by_half_sum(
     search: Search,
     obstacles: &[u8],
     times: &[f32],
@@ -144,13 +160,31 @@ pub fn take_cell(
     queue: &mut [u32],
     ring: Ring,
 ) -> TakenCell
-    requires { ⌜ Taking search (terrain (now obstacles) (now times)) (buffers (now distances) (now carried) (now marks) (now queue) ring) ⌝ }
+    requires { ⌜ TakingBy search half-sum-numbers (terrain (now obstacles) (now times)) (buffers (now distances) (now carried) (now marks) (now queue) ring) ⌝ }
     ensures { λ r. ⌜ TookCell search (terrain (now (obstacles .entry)) (now (times .entry)))
         (buffers (now (distances .entry)) (now (carried .entry)) (now (marks .entry)) (now (queue .entry)) ring)
         (buffers (now (distances .exit)) (now (carried .exit)) (now (marks .exit)) (now (queue .exit)) (r .ring)) r ⌝ }
 {
-    let some = take_some(
+    if is_next_inner(search.size, queue, ring) {
+        return take_inner_cell(
+            search,
+            PLUS_HALF_SUM,
+            NOTHING,
+            false,
+            obstacles,
+            times,
+            distances,
+            carried,
+            marks,
+            queue,
+            ring,
+        );
+    }
+    take_edge_cell(
         search,
+        PLUS_HALF_SUM,
+        NOTHING,
+        false,
         obstacles,
         times,
         distances,
@@ -158,7 +192,51 @@ pub fn take_cell(
         marks,
         queue,
         ring,
-        1,
-    );
-    some.took
+    )
+}
+
+// Takes the next cell where it is the step times the time, which may be nodata.
+pub fn take_by_time_or_quarter(
+    search: Search,
+    obstacles: &[u8],
+    times: &[f32],
+    distances: &mut [f32],
+    carried: &mut [f32],
+    marks: &mut [u8],
+    queue: &mut [u32],
+    ring: Ring,
+) -> TakenCell
+    requires { ⌜ TakingBy search time-or-quarter-numbers (terrain (now obstacles) (now times)) (buffers (now distances) (now carried) (now marks) (now queue) ring) ⌝ }
+    ensures { λ r. ⌜ TookCell search (terrain (now (obstacles .entry)) (now (times .entry)))
+        (buffers (now (distances .entry)) (now (carried .entry)) (now (marks .entry)) (now (queue .entry)) ring)
+        (buffers (now (distances .exit)) (now (carried .exit)) (now (marks .exit)) (now (queue .exit)) (r .ring)) r ⌝ }
+{
+    if is_next_inner(search.size, queue, ring) {
+        return take_inner_cell(
+            search,
+            PLUS_TIME_OR_QUARTER,
+            NOTHING,
+            false,
+            obstacles,
+            times,
+            distances,
+            carried,
+            marks,
+            queue,
+            ring,
+        );
+    }
+    take_edge_cell(
+        search,
+        PLUS_TIME_OR_QUARTER,
+        NOTHING,
+        false,
+        obstacles,
+        times,
+        distances,
+        carried,
+        marks,
+        queue,
+        ring,
+    )
 }

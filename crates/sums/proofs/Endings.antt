@@ -1,4 +1,4 @@
--- The beginning of a loop over `take_cell`, and its end in the words of the rules' net. Assumes nothing.
+-- The beginning of a loop that takes one cell at a time, and its end in the words of the rules' net. Assumes nothing.
 use mathlib.Core.Bool.{Bool, true, false}
 use mathlib.Core.List.{List, [], map}
 use mathlib.Core.Path.{_≡_, sym, ap, _∙_}

@@ -49,6 +49,7 @@ module _ (size : Size) (times : List Float) (limit : Float) (start : ℕ) where
             let long = ap length cleared ∙ length-replicate (length added) 0 in
             record {
               running = begun-runs (amount-spreads targets obstacles values carried) began;
+              numbered = refl;
               answer-length = asked .lengths .answer-length;
               added-length = long ∙ asked .lengths .added-length;
               none-added = cleared ∙ ap (λ n. replicate n 0) (sym long);

@@ -62,6 +62,7 @@ module _ (size : Size) (times : List Float) (start : ℕ) (limit : Float) where
         pub mask-lists : {met₁ : List ℕ} → met₁ ≡ replicate (length met) 0 → Lists mask-search (terrain obstacles times) listed met₁ begun
         mask-lists {met₁} cleared = record {
           running = begun-runs (mask-spreads targets obstacles values carried) began;
+          numbered = refl;
           none-listed =
               subst (λ m. Listing (count size) m listed 0 []) (sym (cleared ∙ ap (λ n. replicate n 0) (asked .lengths .met-length)))
               (listing-none (count size) (asked .lengths .listed-length));

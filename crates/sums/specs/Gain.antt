@@ -10,7 +10,7 @@ use Rattle.rules.specs.Sizes.{count}
 use Rattle.rules.specs.Sums.{gaining-one, gaining-of, gain}
 use Rattle.rules.specs.Values.{Carried}
 use Rattle.spread.specs.declared.search.Search.{Search}
-use Rattle.spread.specs.Steps.{Terrain}
+use Rattle.spread.specs.Steps.{Terrain, numbers-of, time-or-quarter-numbers}
 use Rattle.spread.specs.Buffers.{Buffers}
 use Rattle.spread.specs.Loop.{taken-at, Ready, Running, Ran}
 
@@ -36,9 +36,10 @@ pub record GainedCell (cell : ℕ) (distance budget amount : Float) (answer : Li
       (start : List Float) (cells : List ℕ) → Gained amount start answer added cells
       → Gained amount start answer′ added′ (gaining-one budget cells (cell, distance))
 
--- The run is to begin: nothing has gained.
+-- The run is to begin, by times that may be nodata: nothing has gained.
 pub record Gaining (search : Search) (ground : Terrain) (answer : List Float) (added : List ℕ) (b : Buffers) : Type 0 where
   pub running : Running search ground b
+  pub numbered : time-or-quarter-numbers ≡ numbers-of (search .rule)
   pub answer-length : length answer ≡ count (search .size)
   pub added-length : length added ≡ count (search .size)
   pub none-added : added ≡ replicate (length added) 0

@@ -8,7 +8,7 @@ use Rattle.fifo.specs.Machine.{Net, once}
 use Rattle.rules.specs.Sizes.{count}
 use Rattle.rules.specs.Values.{Carried}
 use Rattle.spread.specs.declared.search.Search.{Search}
-use Rattle.spread.specs.Steps.{Terrain}
+use Rattle.spread.specs.Steps.{Terrain, numbers-of, half-sum-numbers}
 use Rattle.spread.specs.Buffers.{Buffers}
 use Rattle.spread.specs.Loop.{taken-at, Ready, Running, Ran}
 use Rattle.reach.specs.Listing.{Listing}
@@ -18,9 +18,10 @@ use Rattle.sums.specs.declared.listing.Reached.{Reached}
 abbrev pub each-once : List (ℕ × Float) → List ℕ
 each-once taken = once [] (map (λ one. one .0) taken)
 
--- The run is to begin: nothing is listed.
+-- The run is to begin, by half sums: nothing is listed.
 pub record Lists (search : Search) (ground : Terrain) (listed met : List ℕ) (b : Buffers) : Type 0 where
   pub running : Running search ground b
+  pub numbered : half-sum-numbers ≡ numbers-of (search .rule)
   pub none-listed : Listing (count (search .size)) met listed 0 []
 
 -- The run has ended, and the cells that it took are listed, in whatever net the buffers were ready for.

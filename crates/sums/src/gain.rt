@@ -2,7 +2,7 @@
 use cells::Ring;
 use cells::is_empty;
 use spread::Search;
-use spread::take_cell;
+use spread::take_by_time_or_quarter;
 ghost use mathlib.Core.Path.{_≡_};
 ghost use mathlib.Core.Bool.{not, _&&_};
 ghost use lib.Dec.{eqb};
@@ -64,7 +64,7 @@ pub fn run_gaining(
     let mut waiting = ring;
     let mut takes: u64 = 0;
     while !is_empty(waiting) {
-        let took = take_cell(
+        let took = take_by_time_or_quarter(
             search,
             obstacles,
             times,
@@ -74,12 +74,7 @@ pub fn run_gaining(
             queue,
             waiting,
         );
-        // Field by field: both at once would wait for the two stores before.
-        let rest = took.ring;
-        waiting = Ring {
-            head: rest.head,
-            tail: rest.tail,
-        };
+        waiting = took.ring;
         gain_cell(
             took.cell,
             took.distance,

@@ -3,7 +3,7 @@ use cells::Ring;
 use cells::is_empty;
 use reach::list_cell;
 use spread::Search;
-use spread::take_cell;
+use spread::take_by_half_sum;
 ghost use Rattle.spread.specs.Steps.{terrain};
 ghost use Rattle.spread.specs.Buffers.{buffers};
 ghost use Rattle.sums.specs.Listed.{Lists, ListedAll};
@@ -37,7 +37,7 @@ pub fn run_listing(
     let mut takes: u64 = 0;
     let mut entries: usize = 0;
     while !is_empty(waiting) {
-        let took = take_cell(
+        let took = take_by_half_sum(
             search,
             obstacles,
             times,
@@ -47,12 +47,7 @@ pub fn run_listing(
             queue,
             waiting,
         );
-        // Field by field: both at once would wait for the two stores before.
-        let rest = took.ring;
-        waiting = Ring {
-            head: rest.head,
-            tail: rest.tail,
-        };
+        waiting = took.ring;
         entries = list_cell(took.cell, met, listed, entries);
         takes += 1;
     }

@@ -24,11 +24,11 @@ loop-holds c = no-gain (c .before .before .before .before .before .before .befor
 is-empty-requires : tie.Need-is-empty-requires Inv-loop μ-loop
 is-empty-requires c κs = tt
 
-take-cell-requires : tie.Need-take-cell-requires Inv-loop μ-loop
-take-cell-requires c κs = turn-takes (c .before .before .before .before .before .before .loop .inv .turn) (c .before .before .before .before .before .is-empty .ensures) (c .before .before .before .before .if1 .taken) (c .before .before .before .before .before .before .before .before .before .before .before .before .before .before .before .pre .running .setting)
+take-by-time-or-quarter-requires : tie.Need-take-by-time-or-quarter-requires Inv-loop μ-loop
+take-by-time-or-quarter-requires c κs = record { takes = turn-takes (c .before .before .before .before .before .before .loop .inv .turn) (c .before .before .before .before .before .is-empty .ensures) (c .before .before .before .before .if1 .taken) (c .before .before .before .before .before .before .before .before .before .before .before .before .before .before .before .pre .running .setting); numbered = c .before .before .before .before .before .before .before .before .before .before .before .before .before .before .before .pre .numbered }
 
 gain-cell-requires : tie.Need-gain-cell-requires Inv-loop μ-loop
-gain-cell-requires c κs = gain-reaches (c .before .before .before .before .before .before .before .before .before .before .before .before .before .before .before .before .before .before .loop .inv) (c .before .before .before .before .before .before .before .before .before .before .before .before .before .before .before .before .before .is-empty .ensures) (c .before .before .before .before .before .before .before .before .before .before .before .take-cell .ensures)
+gain-cell-requires c κs = gain-reaches (c .before .before .before .before .before .before .before .before .before .before .before .before .before .before .before .before .before .before .loop .inv) (c .before .before .before .before .before .before .before .before .before .before .before .before .before .before .before .before .before .is-empty .ensures) (c .before .before .before .before .before .before .before .before .before .before .before .take-by-time-or-quarter .ensures)
 
 add-takes : tie.Need-add-takes Inv-loop μ-loop
 add-takes c = take-counted (c .before .before .before .before .before .before .before .before .before .before .before .before .before .before .before .before .before .before .before .before .before .before .before .loop .inv .turn) (c .before .before .before .before .before .before .before .before .before .before .before .before .before .before .before .before .before .before .before .before .before .before .is-empty .ensures) (c .before .before .before .before .before .before .before .before .before .before .before .before .before .before .before .before .before .before .before .before .before .if1 .taken) (c .before .before .before .before .before .before .before .before .before .before .before .before .before .before .before .before .before .before .before .before .before .before .before .before .before .before .before .before .before .before .before .before .pre .running) .0
@@ -37,7 +37,7 @@ loop-less : tie.Need-loop-less Inv-loop μ-loop
 loop-less c = take-counted (c .before .before .before .before .before .before .before .before .before .before .before .before .before .before .before .before .before .before .before .before .before .before .before .loop .inv .turn) (c .before .before .before .before .before .before .before .before .before .before .before .before .before .before .before .before .before .before .before .before .before .before .is-empty .ensures) (c .before .before .before .before .before .before .before .before .before .before .before .before .before .before .before .before .before .before .before .before .before .if1 .taken) (c .before .before .before .before .before .before .before .before .before .before .before .before .before .before .before .before .before .before .before .before .before .before .before .before .before .before .before .before .before .before .before .before .pre .running) .1
 
 loop-again : tie.Need-loop-again Inv-loop μ-loop
-loop-again c = next-gain (c .before .before .before .before .before .before .before .before .before .before .before .before .before .before .before .before .before .before .before .before .before .before .before .loop .inv) (c .before .before .before .before .before .before .before .before .before .before .before .before .before .before .before .before .before .before .before .before .before .before .is-empty .ensures) (c .before .before .before .before .before .before .before .before .before .before .before .before .before .before .before .before .before .before .before .before .before .if1 .taken) (c .before .before .before .before .before .before .before .before .before .before .before .before .before .before .before .before .take-cell .ensures) (c .before .before .before .before .gain-cell .ensures)
+loop-again c = next-gain (c .before .before .before .before .before .before .before .before .before .before .before .before .before .before .before .before .before .before .before .before .before .before .before .loop .inv) (c .before .before .before .before .before .before .before .before .before .before .before .before .before .before .before .before .before .before .before .before .before .before .is-empty .ensures) (c .before .before .before .before .before .before .before .before .before .before .before .before .before .before .before .before .before .before .before .before .before .if1 .taken) (c .before .before .before .before .before .before .before .before .before .before .before .before .before .before .before .before .take-by-time-or-quarter .ensures) (c .before .before .before .before .gain-cell .ensures)
 
 same-length : tie.Need-same-length Inv-loop μ-loop
 same-length c = c .before .before .loop .inv .answer-length ∙ sym (c .before .before .before .before .before .before .before .before .before .before .before .pre .answer-length)
@@ -68,7 +68,7 @@ run-gaining-spec =
     μ-loop
     loop-holds
     is-empty-requires
-    take-cell-requires
+    take-by-time-or-quarter-requires
     gain-cell-requires
     add-takes
     loop-less

@@ -24,11 +24,11 @@ loop-holds c = none-listed (c .before .before .before .before .before .before .b
 is-empty-requires : tie.Need-is-empty-requires Inv-loop μ-loop
 is-empty-requires c κs = tt
 
-take-cell-requires : tie.Need-take-cell-requires Inv-loop μ-loop
-take-cell-requires c κs = turn-takes (c .before .before .before .before .before .before .loop .inv .turn) (c .before .before .before .before .before .is-empty .ensures) (c .before .before .before .before .if1 .taken) (c .before .before .before .before .before .before .before .before .before .before .before .before .before .before .before .pre .running .setting)
+take-by-half-sum-requires : tie.Need-take-by-half-sum-requires Inv-loop μ-loop
+take-by-half-sum-requires c κs = record { takes = turn-takes (c .before .before .before .before .before .before .loop .inv .turn) (c .before .before .before .before .before .is-empty .ensures) (c .before .before .before .before .if1 .taken) (c .before .before .before .before .before .before .before .before .before .before .before .before .before .before .before .pre .running .setting); numbered = c .before .before .before .before .before .before .before .before .before .before .before .before .before .before .before .pre .numbered }
 
 list-cell-requires : tie.Need-list-cell-requires Inv-loop μ-loop
-list-cell-requires c κs = list-joins (c .before .before .before .before .before .before .before .before .before .before .before .before .before .before .before .before .before .before .loop .inv) (c .before .before .before .before .before .before .before .before .before .before .before .before .before .before .before .before .before .is-empty .ensures) (c .before .before .before .before .before .before .before .before .before .before .before .take-cell .ensures) (c .before .before .before .before .before .before .before .before .before .before .before .before .before .before .before .before .before .before .before .before .before .before .before .before .before .before .before .pre .running .ready)
+list-cell-requires c κs = list-joins (c .before .before .before .before .before .before .before .before .before .before .before .before .before .before .before .before .before .before .loop .inv) (c .before .before .before .before .before .before .before .before .before .before .before .before .before .before .before .before .before .is-empty .ensures) (c .before .before .before .before .before .before .before .before .before .before .before .take-by-half-sum .ensures) (c .before .before .before .before .before .before .before .before .before .before .before .before .before .before .before .before .before .before .before .before .before .before .before .before .before .before .before .pre .running .ready)
 
 add-takes : tie.Need-add-takes Inv-loop μ-loop
 add-takes c = take-counted (c .before .before .before .before .before .before .before .before .before .before .before .before .before .before .before .before .before .before .before .before .before .before .before .loop .inv .turn) (c .before .before .before .before .before .before .before .before .before .before .before .before .before .before .before .before .before .before .before .before .before .before .is-empty .ensures) (c .before .before .before .before .before .before .before .before .before .before .before .before .before .before .before .before .before .before .before .before .before .if1 .taken) (c .before .before .before .before .before .before .before .before .before .before .before .before .before .before .before .before .before .before .before .before .before .before .before .before .before .before .before .before .before .before .before .before .pre .running) .0
@@ -37,7 +37,7 @@ loop-less : tie.Need-loop-less Inv-loop μ-loop
 loop-less c = take-counted (c .before .before .before .before .before .before .before .before .before .before .before .before .before .before .before .before .before .before .before .before .before .before .before .loop .inv .turn) (c .before .before .before .before .before .before .before .before .before .before .before .before .before .before .before .before .before .before .before .before .before .before .is-empty .ensures) (c .before .before .before .before .before .before .before .before .before .before .before .before .before .before .before .before .before .before .before .before .before .if1 .taken) (c .before .before .before .before .before .before .before .before .before .before .before .before .before .before .before .before .before .before .before .before .before .before .before .before .before .before .before .before .before .before .before .before .pre .running) .1
 
 loop-again : tie.Need-loop-again Inv-loop μ-loop
-loop-again c = next-listed (c .before .before .before .before .before .before .before .before .before .before .before .before .before .before .before .before .before .before .before .before .before .before .before .loop .inv) (c .before .before .before .before .before .before .before .before .before .before .before .before .before .before .before .before .before .before .before .before .before .before .is-empty .ensures) (c .before .before .before .before .before .before .before .before .before .before .before .before .before .before .before .before .before .before .before .before .before .if1 .taken) (c .before .before .before .before .before .before .before .before .before .before .before .before .before .before .before .before .take-cell .ensures) (c .before .before .before .before .list-cell .ensures)
+loop-again c = next-listed (c .before .before .before .before .before .before .before .before .before .before .before .before .before .before .before .before .before .before .before .before .before .before .before .loop .inv) (c .before .before .before .before .before .before .before .before .before .before .before .before .before .before .before .before .before .before .before .before .before .before .is-empty .ensures) (c .before .before .before .before .before .before .before .before .before .before .before .before .before .before .before .before .before .before .before .before .before .if1 .taken) (c .before .before .before .before .before .before .before .before .before .before .before .before .before .before .before .before .take-by-half-sum .ensures) (c .before .before .before .before .list-cell .ensures)
 
 same-length : tie.Need-same-length Inv-loop μ-loop
 same-length c = same-distances (c .before .before .before .before .before .before .before .before .before .before .before .pre .running .good) (c .before .before .loop .inv .turn .good)
@@ -68,7 +68,7 @@ run-listing-spec =
     μ-loop
     loop-holds
     is-empty-requires
-    take-cell-requires
+    take-by-half-sum-requires
     list-cell-requires
     add-takes
     loop-less
