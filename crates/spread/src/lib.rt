@@ -6,7 +6,9 @@
 // operation on the state that they held before (specs/Buffers.antt).
 //
 // `begin_cells` and `take_cell` are for a loop of one's own that does something with each cell that is
-// taken: proofs/Running.antt and proofs/Tracing.antt have the laws for it.
+// taken: proofs/Running.antt and proofs/Tracing.antt have the laws for it. Where many searches from one
+// cell each follow one another, `begin_clear` begins once for all, and `begin_at` begins each of them, if
+// between two the cells that the last one reached are put back (`Clear` in specs/Begin.antt).
 mod begin;
 mod first;
 mod formulas;
@@ -19,7 +21,9 @@ mod steps;
 mod take;
 mod waiting;
 
+pub use begin::begin_at;
 pub use begin::begin_cells;
+pub use begin::begin_clear;
 pub use first::is_target;
 pub use run::spread;
 pub use search::Rule;
