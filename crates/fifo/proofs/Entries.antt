@@ -8,7 +8,8 @@ use Rattle.fifo.specs.Machine.{Net, State, among, joined, once, passing,
 use Rattle.fifo.specs.Walk.{In, NoDup}
 use Rattle.fifo.proofs.Lists.{tested, not-among, among-in, in-among, in-snoc, in-back, joined-waiting, joined-new, in-joined, joiner-in}
 use Rattle.fifo.proofs.Ranges.{no-dup-passing}
-use Rattle.fifo.proofs.Induction.{waiting-store, entered-store, Kept, take-keeps, run-zero, run-stopped, run-head, trace-zero, trace-stopped, trace-head, by-takes, run-keeps}
+use Rattle.fifo.proofs.Induction.{label-unstored, label-awaiting, waiting-store, entered-store, Kept, take-keeps, run-zero, run-stopped, run-head, trace-zero, trace-stopped, trace-head, by-takes, run-keeps}
+use Rattle.fifo.proofs.Sound.{label-initial}
 
 -- The last cell of a list joins last.
 pub once-last : (found cells : List ℕ) (c : ℕ) → once found (cells ++ c ∷ []) ≡ joined c (once found cells)
@@ -85,6 +86,18 @@ module _ {L : Type 0} (net : Net L) where
   entered-stays c =
       run-keeps net (λ t. In c (t .entered))
       (λ u ws s e i. take-keeps net (λ t. In c (t .entered)) u ws s (λ v f j t lower i. rw entered-store (in-joined c v (t .entered) i)) i)
+
+  -- A cell that was not entered has its first label: a store to a cell enters it.
+  pub unentered-first : (c k : ℕ) → (In c (run net k (initial net) .entered) → ⊥) → label net (run net k (initial net)) c ≡ net .first c
+  unentered-first c k = run-keeps net Unstored (λ u ws s e p. take-keeps net Unstored u ws s (kept (label net s u) (net .nbrs u)) (λ out. label-awaiting net ws s c ∙ p out)) k (initial net) (λ out. label-initial net c)
+    where
+      Unstored : State L → Type 0
+      Unstored t = (In c (t .entered) → ⊥) → label net t c ≡ net .first c
+
+      kept : (d : L) (steps : List (ℕ × (L → L))) → Kept net Unstored d steps
+      kept d steps v f i t lower p out =
+          label-unstored net v (f d) t c (λ same. out (rw entered-store (joiner-in c v (t .entered) same)))
+          ∙ p (λ j. out (rw entered-store (in-joined c v (t .entered) j)))
 
   -- Where a run from the start has stopped, the cells in order of first entry are the taken cells in order of their first take.
   pub entered-as-taken :

@@ -1,7 +1,7 @@
 -- The cells beside the listed ones: a cell that is tried is added where the rules say so, and cells are tried one after the other. Assumes nothing.
 use mathlib.Core.Bool.{Bool, true, false, not, cond, _&&_}
 use mathlib.Core.List.{List, [], _∷_, _++_, append-assoc, foldl, foldl-append}
-use mathlib.Core.Logic.{⊎-elim}
+use mathlib.Core.Logic.{_⊎_, inl, inr, ⊎-elim}
 use mathlib.Core.Path.{_≡_, refl, sym, ap, _∙_}
 use Prim.Native.Nat.{ℕ, _<_}
 use lib.Dec.{eqb}
@@ -9,7 +9,7 @@ use lib.Ieee.{Float}
 use lib.ListN.{length, getD, set, length-set}
 use Rattle.fifo.specs.Machine.{among, joined}
 use Rattle.fifo.specs.Walk.{In}
-use Rattle.fifo.proofs.Lists.{true-or-false, among-in, in-among, not-among, in-front, in-back, in-either, joined-waiting, joined-new}
+use Rattle.fifo.proofs.Lists.{by-test, true-or-false, among-in, in-among, not-among, in-front, in-back, in-either, joined-waiting, joined-new, joined-cases}
 use Rattle.rules.specs.Sums.{add-value, above-budget, adjoin}
 use Rattle.reach.specs.Listing.{Met}
 use Rattle.reach.specs.Adjacent.{Adjoins}
@@ -90,3 +90,16 @@ module _ {values distances : List Float} {budget : Float} where
         (rw (first .same-length) at (then .adds base cells (foldl (adjoin distances budget cells) found us) (rw (first .same-length) (first .adds base cells found adding))));
     same-length = then .same-length ∙ first .same-length;
   }
+
+-- A cell that was found was found before, or is one of those that were tried.
+adjoined-cases : (distances : List Float) (budget : Float) (cells found : List ℕ) (v c : ℕ) → In c (adjoin distances budget cells found v) → In c found ⊎ (c ≡ v)
+unfolding adjoin
+adjoined-cases distances budget cells found v c =
+    by-test (λ l. In c l → In c found ⊎ (c ≡ v)) (not (among v cells) && above-budget distances budget v) (λ added. joined-cases c v found) (λ kept. inl)
+
+pub found-tried :
+    (distances : List Float) (budget : Float) (cells found vs : List ℕ) (c : ℕ) → In c (foldl (adjoin distances budget cells) found vs) → In c found ⊎ In c vs
+found-tried distances budget cells found [] c i = inl i
+found-tried distances budget cells found (v ∷ vs) c i =
+    ⊎-elim (λ j. ⊎-elim inl (λ same. inr (inl same)) (adjoined-cases distances budget cells found v c j)) (λ j. inr (inr j))
+    (found-tried distances budget cells (adjoin distances budget cells found v) vs c i)

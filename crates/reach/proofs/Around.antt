@@ -1,5 +1,6 @@
 -- The cells beside a cell, and beside each of a list, are tried by the table of offsets. Assumes nothing.
 use mathlib.Core.List.{List, [], _∷_, _++_, append-nil, append-assoc, foldl, foldl-append}
+use mathlib.Core.Logic.{⊎-elim}
 use mathlib.Core.Path.{_≡_, refl, sym, ap, _∙_}
 use Prim.Native.Nat.{ℕ, _+_, _<_}
 use lib.IntN.{ℤ}
@@ -8,6 +9,7 @@ use lib.ListN.{length, getD, take}
 use Rattle.cells.specs.Storing.{stay, on, back}
 use Rattle.cells.proofs.Edges.{AllSteps, none, more}
 use Rattle.cells.proofs.NeighbourLists.{one-more}
+use Rattle.fifo.specs.Walk.{In}
 use Rattle.fifo.proofs.Lists.{take-more}
 use Rattle.rules.specs.declared.Size.{Size}
 use Rattle.rules.specs.Sizes.{count}
@@ -15,10 +17,10 @@ use Rattle.rules.specs.Cells.{neighbour, neighbours}
 use Rattle.rules.specs.Sums.{adjacent-offsets, adjoin, adjacent-cells}
 use Rattle.rules.proofs.Neighbours.{neighbour-inside}
 use Rattle.reach.specs.Listing.{Listing}
-use Rattle.reach.specs.Adjacent.{Adding, Adjoins, Trying, Fitting, Beside, AddedAdjacent}
+use Rattle.reach.specs.Adjacent.{beside, Adding, Adjoins, Trying, Fitting, Beside, AddedAdjacent}
 use Rattle.reach.proofs.Listings.{listing-cells}
 use Rattle.reach.proofs.Sums.{added-none}
-use Rattle.reach.proofs.Adjoining.{adjoins-none, adjoins-on}
+use Rattle.reach.proofs.Adjoining.{adjoins-none, adjoins-on, found-tried}
 
 -- ---- the table
 
@@ -59,12 +61,7 @@ module _ {values distances : List Float} {budget : Float} {met₀ : List ℕ} {s
 
 -- ---- the cells beside each of a list
 
--- All of them, in the order in which they are tried.
-pub beside : Size → List ℕ → List ℕ
-beside size [] = []
-beside size (u ∷ us) = neighbours size u adjacent-offsets ++ beside size us
-
-beside-last : (size : Size) (us : List ℕ) (u : ℕ) → beside size (us ++ u ∷ []) ≡ beside size us ++ neighbours size u adjacent-offsets
+pub beside-last : (size : Size) (us : List ℕ) (u : ℕ) → beside size (us ++ u ∷ []) ≡ beside size us ++ neighbours size u adjacent-offsets
 unfolding beside
 beside-last size [] u = append-nil (neighbours size u adjacent-offsets)
 beside-last size (w ∷ us) u =
@@ -84,6 +81,10 @@ in-turn size distances budget cells found (u ∷ us) =
 adjacent-is : (size : Size) (distances : List Float) (budget : Float) (cells : List ℕ) → adjacent-cells size distances budget cells ≡ foldl (adjoin distances budget cells) [] (beside size cells)
 unfolding adjacent-cells
 adjacent-is size distances budget cells = in-turn size distances budget cells [] cells
+
+-- The adjacent cells of the rules stand beside the listed ones.
+pub adjacent-beside : (size : Size) (distances : List Float) (budget : Float) (cells : List ℕ) (c : ℕ) → In c (adjacent-cells size distances budget cells) → In c (beside size cells)
+adjacent-beside size distances budget cells c i = ⊎-elim (λ none. absurd none) (λ j. j) (found-tried distances budget cells [] (beside size cells) c (rw (adjacent-is size distances budget cells) at i))
 
 module _ {values distances : List Float} {budget : Float} {met₀ : List ℕ} {sum₀ : Float} where
   pub beside-none : (size : Size) (listed : List ℕ) → Adjoins values distances budget (beside size (take 0 listed)) met₀ sum₀ met₀ sum₀

@@ -4,4 +4,5 @@ pub mod Listings
 pub mod Sums
 pub mod Adjoining
 pub mod Around
+pub mod PutBack
 pub mod Decided

@@ -1,15 +1,34 @@
 -- What the functions for the cells beside the listed ones are asked and promise. Definitions only.
-use mathlib.Core.List.{List, _++_, foldl}
+use mathlib.Core.List.{List, [], _∷_, _++_, foldl}
 use mathlib.Core.Path.{_≡_}
 use Prim.Native.Nat.{ℕ, _<_}
 use lib.Dec.{T}
 use lib.Ieee.{Float}
-use lib.ListN.{length, take}
+use lib.ListN.{length, getD, take}
+use Rattle.cells.specs.declared.neighbours.Neighbour.{Neighbour}
+use Rattle.cells.specs.declared.neighbours.Place.{Place}
+use Rattle.cells.specs.Neighbours.{CellOf, place-of}
+use Rattle.cells.specs.Storing.{cells-at}
 use Rattle.fifo.specs.Walk.{In}
 use Rattle.rules.specs.declared.Size.{Size}
 use Rattle.rules.specs.Sizes.{in-bounds, count}
-use Rattle.rules.specs.Sums.{add-values, adjoin, adjacent-cells}
+use Rattle.rules.specs.Cells.{neighbour, neighbours}
+use Rattle.rules.specs.Sums.{add-values, adjacent-offsets, adjoin, adjacent-cells}
 use Rattle.reach.specs.Listing.{Met, Cells}
+
+-- The cells beside each of a list, in the order in which they are tried.
+unfoldable pub beside : Size → List ℕ → List ℕ
+beside size [] = []
+beside size (u ∷ us) = neighbours size u adjacent-offsets ++ beside size us
+
+-- What stands beside the cell at a place is to be found, by the number of its offset.
+pub record LooksBeside (size : Size) (place : Place) (i : ℕ) : Type 0 where
+  pub stands : (u : ℕ) × CellOf size u × (place ≡ place-of size u)
+  pub offset-in : i < 4
+
+-- From that cell the i-th offset leads to the neighbour that is told.
+pub record LeadsBeside (size : Size) (place : Place) (i : ℕ) (there : Neighbour) : Type 0 where
+  pub leads : (u : ℕ) → CellOf size u → place ≡ place-of size u → cells-at there ≡ neighbour size u (getD adjacent-offsets i [])
 
 -- The cells found so far are met, as are the listed ones, and their values were added to `base`.
 pub record Adding (n : ℕ) (values : List Float) (base : Float) (cells found met : List ℕ) (sum : Float) : Type 0 where

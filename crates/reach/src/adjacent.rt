@@ -3,6 +3,7 @@ use crate::listing::MET;
 use crate::summing::add_value;
 use crate::summing::is_above;
 use cells::Neighbour;
+use cells::Place;
 use cells::neighbour_at;
 use cells::place_of;
 use rules::Size;
@@ -11,7 +12,7 @@ ghost use lib.ListN.{take};
 ghost use Rattle.cells.specs.Storing.{cells-at};
 ghost use Rattle.rules.specs.Cells.{neighbours};
 ghost use Rattle.rules.specs.Sums.{adjacent-offsets};
-ghost use Rattle.reach.specs.Adjacent.{Adjoins, Trying, Around, Beside, AddedAdjacent};
+ghost use Rattle.reach.specs.Adjacent.{LooksBeside, LeadsBeside, Adjoins, Trying, Around, Beside, AddedAdjacent};
 
 // The offsets of the cells beside a cell, row and column each, in the order in which they are added.
 pub const ADJACENT: [[i32; 2]; 4] = [
@@ -20,6 +21,15 @@ pub const ADJACENT: [[i32; 2]; 4] = [
     [0, -1], // left
     [0, 1], // right
 ];
+
+// What stands beside the cell at a place, by the number of its offset.
+pub fn beside_at(size: Size, place: Place, i: usize) -> Neighbour
+    requires { ⌜ LooksBeside size place i ⌝ }
+    ensures { λ r. ⌜ LeadsBeside size place i r ⌝ }
+{
+    let offset = ADJACENT[i];
+    neighbour_at(size, place.row, place.col, offset[0], offset[1])
+}
 
 // Adds the value of a cell that was not met and is above the budget, and notes that it is met.
 fn add_once(
@@ -78,8 +88,7 @@ fn add_around(
     let place = place_of(size, cell);
     let mut total = sum;
     for i in 0..4 {
-        let offset = ADJACENT[i];
-        let there = neighbour_at(size, place.row, place.col, offset[0], offset[1]);
+        let there = beside_at(size, place, i);
         total = add_there(there, values, distances, budget, total, met);
     }
     total

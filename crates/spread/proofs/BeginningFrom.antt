@@ -1,4 +1,4 @@
--- A search from one cell begins: every distance is the cap, every mark is cleared, and the one cell is set. Assumes nothing.
+-- A search from one cell begins: where no cell is reached, the one cell is set. Assumes nothing.
 use mathlib.Core.Bool.{Bool, true, false, not, cond, _&&_}
 use mathlib.Core.List.{List, [], _∷_}
 use mathlib.Core.Path.{_≡_, refl, sym, ap, _∙_, subst}
@@ -23,108 +23,150 @@ use Rattle.spread.specs.declared.search.Rule.{Rule}
 use Rattle.spread.specs.declared.search.Rule.the-variants.{FromMaskCell, FromAmount}
 use Rattle.spread.specs.declared.search.Search.{Search}
 use Rattle.spread.specs.Nets.{net-of, carries, reads-times}
-use Rattle.spread.specs.Waiting.{Waiting, Joining, Joined}
+use Rattle.spread.specs.Waiting.{Waiting, Unmarked, Joining, Joined}
 use Rattle.spread.specs.Buffers.{buffers}
 use Rattle.spread.specs.First.{net-on}
-use Rattle.spread.specs.Begin.{BeganTo, Begins, BeginsFrom, BeganFrom}
+use Rattle.spread.specs.Begin.{BeganTo, Begins, BeginsFrom, BeganFrom, Clear, BeginsAt, BeganAt}
 
 -- ---- the one cell
 
 abbrev starts-at : ℕ → List Float → ℕ → Bool
 starts-at origin times c = eqb c origin && not (nodata (getD times c nan))
 
--- Nothing waits where every mark is cleared and the ring is new.
-nothing-waits : {n : ℕ} {marks queue : List ℕ} {ring : Ring} → NewRing ring → marks ≡ replicate n 0 → length queue ≡ suc n → Waiting n marks queue ring
+-- Nothing waits where no cell is marked and the ring is new.
+nothing-waits : {n : ℕ} {marks queue : List ℕ} {ring : Ring} → NewRing ring → length marks ≡ n → Unmarked n marks → length queue ≡ suc n → Waiting n marks queue ring
 unfolding among
-nothing-waits {n} {marks} {queue} {ring} new cleared slots =
-    let long : length marks ≡ n = ap length cleared ∙ length-replicate n 0 in
+nothing-waits {n} {marks} {queue} {ring} new long unmarked slots = record {
+  few = omega arith;
+  slots = slots ∙ ap suc (sym long);
+  in-slots = new .good queue (rw slots (omega arith));
+  single = rw (new .empty queue) tt;
+  inside = λ c i. absurd (rw (new .empty queue) at i);
+  marked = λ c below. rw (new .empty queue) (unmarked c below);
+}
+
+-- Where all are filled, no cell is reached.
+pub all-clear :
+    {n : ℕ} {cap : Float} {filled : List Float} (marks : List ℕ) {cleared : List ℕ} → length marks ≡ n → filled ≡ replicate n cap → cleared ≡ replicate (length marks) 0
+    → Clear n cap filled cleared
+all-clear {n} marks long filled-is cleared-is =
+    let cleared-all = cleared-is ∙ ap (λ k. replicate k 0) long in
     record {
-      few = omega arith;
-      slots = slots ∙ ap suc (sym long);
-      in-slots = new .good queue (rw slots (omega arith));
-      single = rw (new .empty queue) tt;
-      inside = λ c i. absurd (rw (new .empty queue) at i);
-      marked = λ c below. rw (new .empty queue) (ap (λ m. eqb m 1) (ap (λ l. getD l c 0) cleared ∙ getD-replicate n c 0 0 below));
+      unreached = filled-is;
+      marks-length = ap length cleared-all ∙ length-replicate n 0;
+      unmarked = λ c below. ap (λ m. eqb m 1) (ap (λ l. getD l c 0) cleared-all ∙ getD-replicate n c 0 0 below);
     }
 
+module _ (origin : ℕ) {times distances : List Float} {marks queue : List ℕ} (begins : BeginsAt times distances marks queue) {ring : Ring} (new : NewRing ring) where
+  marks-long : length marks ≡ length distances
+  marks-long = begins .clear .1 .marks-length
+
+  none-wait : Waiting (length distances) marks queue ring
+  none-wait = nothing-waits new marks-long (begins .clear .1 .unmarked) (begins .queue-length)
+
+  pub origin-joins : origin < length distances → Joining origin marks queue ring
+  origin-joins below = record { waits = subst (λ k. Waiting k marks queue ring) (sym marks-long) none-wait; inside = rw marks-long below }
+
+  other-fails : (c : ℕ) → (c ≡ origin → ⊥) → starts-at origin times c ≡ false
+  other-fails c other = rw (ne-eqb c origin other)
+
+  held : (cap : Float) → Clear (length distances) cap distances marks → (c : ℕ) → c < length distances → getD distances c nan ≡ cap
+  held cap clear c below = ap (λ l. getD l c nan) (clear .unreached) ∙ getD-replicate (length distances) c cap nan below
+
+  -- Any other cell holds the cap still.
+  set-there :
+      origin < length distances → (cap : Float) → Clear (length distances) cap distances marks
+      → (c : ℕ) → c < length distances → getD (set distances origin plus-zero) c nan ≡ cond (eqb c origin) plus-zero cap
+  set-there below cap clear c c-below =
+      after-set (λ d. d ≡ cond (eqb c origin) plus-zero cap) distances origin plus-zero nan c below (λ same. rw (eq-eqb c origin same))
+      (λ other. rw (ne-eqb c origin other) (held cap clear c c-below))
+
+  origin-starts : {answer : Bool} → answer ≡ nodata (getD times origin nan) → starts-at origin times origin ≡ not answer
+  origin-starts says = rw (eq-eqb origin origin refl) (ap not (sym says))
+
+  -- The cell alone starts, if its time has data.
+  origin-alone :
+      origin < length distances → {answer : Bool} → answer ≡ nodata (getD times origin nan)
+      → passing (starts-at origin times) 0 (length distances) ≡ cond (not answer) (origin ∷ []) []
+  origin-alone below says =
+      passing-one (starts-at origin times) origin 0 (length distances) (omega arith) (omega arith) other-fails ∙ ap (λ b. cond b (origin ∷ []) []) (origin-starts says)
+
+  -- The cell waits: its time has data.
+  pub origin-waits :
+      origin < length distances → {answer : Bool} → answer ≡ nodata (getD times origin nan) → answer ≡ false
+      → {marks′ queue′ : List ℕ} {ring′ : Ring} → Joined origin marks queue ring marks′ queue′ ring′
+      → BeganAt origin times distances marks queue (set distances origin plus-zero) marks′ queue′ ring′
+  unfolding joined among
+  origin-waits below says has-data {marks′} {queue′} {ring′} joins = record {
+    from = λ cap clear. record {
+      distances-are = set-there below cap clear;
+      waits = subst (λ k. Waiting k marks′ queue′ ring′) marks-long (joins .waits);
+      waiting = joins .added ∙ ap (joined origin) (new .empty queue) ∙ sym (origin-alone below says ∙ ap (λ b. cond (not b) (origin ∷ []) []) has-data);
+      same-distances = length-set distances origin plus-zero;
+      same-marks = joins .same-length;
+      same-queue = joins .waits .slots ∙ ap suc (joins .same-length ∙ marks-long) ∙ sym (begins .queue-length);
+    };
+  }
+
+  -- It does not: its time is nodata.
+  pub began-idle :
+      origin < length distances → {answer : Bool} → answer ≡ nodata (getD times origin nan) → answer ≡ true
+      → BeganAt origin times distances marks queue (set distances origin plus-zero) marks queue ring
+  began-idle below says no-data = record {
+    from = λ cap clear. record {
+      distances-are = set-there below cap clear;
+      waits = none-wait;
+      waiting = new .empty queue ∙ sym (origin-alone below says ∙ ap (λ b. cond (not b) (origin ∷ []) []) no-data);
+      same-distances = length-set distances origin plus-zero;
+      same-marks = refl;
+      same-queue = refl;
+    };
+  }
+
+  -- It is no cell of the grid.
+  pub began-nowhere : length distances ≤ origin → BeganAt origin times distances marks queue distances marks queue ring
+  began-nowhere past = record {
+    from = λ cap clear. record {
+      distances-are = λ c below. rw (ne-eqb c origin (λ p. omega arith)) (held cap clear c below);
+      waits = none-wait;
+      waiting = new .empty queue ∙ sym (passing-none (starts-at origin times) 0 (length distances) (λ c low high. other-fails c (λ p. omega arith)));
+      same-distances = refl;
+      same-marks = refl;
+      same-queue = refl;
+    };
+  }
+
+-- ---- the one cell, whatever the buffers held
+
 module _
-    {origin : ℕ} (cap : Float) {times distances : List Float} {marks queue : List ℕ} (begins : BeginsFrom origin times distances marks queue)
-    {filled : List Float} {cleared : List ℕ} {ring : Ring}
-    (filled-is : filled ≡ replicate (length distances) cap) (cleared-is : cleared ≡ replicate (length marks) 0) (new : NewRing ring)
+    {origin : ℕ} {cap : Float} {times distances : List Float} {marks queue : List ℕ} (begins : BeginsFrom origin times distances marks queue)
+    {filled : List Float} {cleared : List ℕ} (clear : Clear (length distances) cap filled cleared)
   where
     filled-long : length filled ≡ length distances
-    filled-long = ap length filled-is ∙ length-replicate (length distances) cap
+    filled-long = ap length (clear .unreached) ∙ length-replicate (length distances) cap
 
-    cleared-long : length cleared ≡ length marks
-    cleared-long = ap length cleared-is ∙ length-replicate (length marks) 0
+    clear-there : Clear (length filled) cap filled cleared
+    clear-there = subst (λ n. Clear n cap filled cleared) (sym filled-long) clear
 
-    none-wait : Waiting (length distances) cleared queue ring
-    none-wait = nothing-waits new (cleared-is ∙ ap (λ k. replicate k 0) (begins .marks-length)) (begins .queue-length)
+    pub begins-at : BeginsAt times filled cleared queue
+    begins-at = record {
+      times-length = begins .times-length ∙ sym filled-long;
+      queue-length = begins .queue-length ∙ ap suc (sym filled-long);
+      clear = (cap, clear-there);
+    }
 
-    pub origin-joins : origin < length filled → Joining origin cleared queue ring
-    origin-joins below =
-        let same : (length distances) ≡ length cleared = sym (cleared-long ∙ begins .marks-length) in
-        record { waits = subst (λ k. Waiting k cleared queue ring) same none-wait; inside = rw (← same) (rw filled-long at below) }
-
-    other-fails : (c : ℕ) → (c ≡ origin → ⊥) → starts-at origin times c ≡ false
-    other-fails c other = rw (ne-eqb c origin other)
-
-    set-there : origin < length filled → (c : ℕ) → c < (length distances) → getD (set filled origin plus-zero) c nan ≡ cond (eqb c origin) plus-zero cap
-    set-there below c c-below =
-        after-set (λ d. d ≡ cond (eqb c origin) plus-zero cap) filled origin plus-zero nan c below (λ same. rw (eq-eqb c origin same))
-        (λ other. rw (ne-eqb c origin other) (ap (λ l. getD l c nan) filled-is ∙ getD-replicate (length distances) c cap nan c-below))
-
-    origin-starts : {answer : Bool} → answer ≡ nodata (getD times origin nan) → starts-at origin times origin ≡ not answer
-    origin-starts says = rw (eq-eqb origin origin refl) (ap not (sym says))
-
-    -- The cell waits: its time has data.
-    pub origin-waits :
-        origin < length filled → {answer : Bool} → answer ≡ nodata (getD times origin nan) → answer ≡ false
-        → {marks′ queue′ : List ℕ} {ring′ : Ring} → Joined origin cleared queue ring marks′ queue′ ring′
-        → BeganFrom origin cap times distances marks queue (set filled origin plus-zero) marks′ queue′ ring′
-    unfolding joined among
-    origin-waits below says has-data {marks′} {queue′} {ring′} joins =
-        let in-grid : origin < (length distances) = rw filled-long at below in
-        let same : length cleared ≡ (length distances) = cleared-long ∙ begins .marks-length in
+    pub began-from :
+        {distances′ : List Float} {marks′ queue′ : List ℕ} {ring : Ring} → BeganAt origin times filled cleared queue distances′ marks′ queue′ ring
+        → BeganFrom origin cap times distances marks queue distances′ marks′ queue′ ring
+    began-from {distances′} {marks′} {queue′} {ring} began =
+        let at = began .from cap clear-there in
         record {
-          distances-are = set-there below;
-          waits = subst (λ k. Waiting k marks′ queue′ ring′) same (joins .waits);
-          waiting =
-              joins .added ∙ ap (joined origin) (new .empty queue)
-              ∙ sym (passing-one (starts-at origin times) origin 0 (length distances) (omega arith) (omega arith) other-fails ∙ ap (λ b. cond b (origin ∷ []) []) (origin-starts says ∙ ap not has-data));
-          same-distances = length-set filled origin plus-zero ∙ filled-long;
-          same-marks = joins .same-length ∙ cleared-long;
-          same-queue = joins .waits .slots ∙ ap suc (joins .same-length ∙ same) ∙ sym (begins .queue-length);
-        }
-
-    -- It does not: its time is nodata.
-    pub began-idle :
-        origin < length filled → {answer : Bool} → answer ≡ nodata (getD times origin nan) → answer ≡ true
-        → BeganFrom origin cap times distances marks queue (set filled origin plus-zero) cleared queue ring
-    began-idle below says no-data =
-        let in-grid : origin < (length distances) = rw filled-long at below in
-        record {
-          distances-are = set-there below;
-          waits = none-wait;
-          waiting =
-              new .empty queue
-              ∙ sym (passing-one (starts-at origin times) origin 0 (length distances) (omega arith) (omega arith) other-fails ∙ ap (λ b. cond b (origin ∷ []) []) (origin-starts says ∙ ap not no-data));
-          same-distances = length-set filled origin plus-zero ∙ filled-long;
-          same-marks = cleared-long;
-          same-queue = refl;
-        }
-
-    -- It is no cell of the grid.
-    pub began-nowhere : length filled ≤ origin → BeganFrom origin cap times distances marks queue filled cleared queue ring
-    began-nowhere past =
-        let out : (length distances) ≤ origin = rw filled-long at past in
-        record {
-          distances-are = λ c below. rw (ne-eqb c origin (λ p. omega arith)) (ap (λ l. getD l c nan) filled-is ∙ getD-replicate (length distances) c cap nan below);
-          waits = none-wait;
-          waiting = new .empty queue ∙ sym (passing-none (starts-at origin times) 0 (length distances) (λ c low high. other-fails c (λ p. omega arith)));
-          same-distances = filled-long;
-          same-marks = cleared-long;
-          same-queue = refl;
+          distances-are = λ c below. at .distances-are c (rw filled-long below);
+          waits = subst (λ n. Waiting n marks′ queue′ ring) filled-long (at .waits);
+          waiting = at .waiting ∙ ap (passing (starts-at origin times) 0) filled-long;
+          same-distances = at .same-distances ∙ filled-long;
+          same-marks = at .same-marks ∙ clear .marks-length ∙ sym (begins .marks-length);
+          same-queue = at .same-queue;
         }
 
 -- ---- the search

@@ -10,7 +10,9 @@ use native.Mathlib.Omega.{arith}
 use lib.Dec.{eqb}
 use lib.Ieee.{Float, nan}
 use lib.ListN.{length, getD}
+use lib.Seq.{ext-getD}
 use Rattle.cells.specs.Ring.{contents}
+use Rattle.cells.specs.declared.ring.Ring.{Ring}
 use Rattle.cells.proofs.Decided.{SameWaiting}
 use Rattle.fifo.specs.Machine.{State}
 use Rattle.fifo.proofs.Lists.{tested, empty-or-not}
@@ -24,7 +26,7 @@ use Rattle.spread.specs.Steps.{Terrain}
 use Rattle.spread.specs.Waiting.{border}
 use Rattle.spread.specs.Buffers.{Buffers, Good, Holds}
 use Rattle.spread.specs.First.{net-on}
-use Rattle.spread.specs.Begin.{BeganTo}
+use Rattle.spread.specs.Begin.{BeganTo, Clear, BeginsAt, BeganAt}
 use Rattle.spread.specs.Loop.{Taking, TookCell}
 use Rattle.spread.specs.Promise.{Spread}
 use Rattle.spread.proofs.Rules.{follows}
@@ -100,6 +102,42 @@ pub began-decides :
 began-decides p q =
     held-decides (begun-good (p .begun)) (begun-good (q .begun)) (begun-initial (p .begun) []) (begun-initial (q .begun) [])
     (λ no-value. equation-decides (p .kept no-value) (q .kept no-value))
+
+-- ---- `begin_clear` and `begin_at`
+
+-- Two calls leave the same distances, and the same cells marked as waiting.
+pub record SameReached (n : ℕ) (distances₁ distances₂ : List Float) (marks₁ marks₂ : List ℕ) : Type 0 where
+  pub distances : distances₁ ≡ distances₂
+  pub marks-length : length marks₁ ≡ length marks₂
+  pub marked : (c : ℕ) → c < n → eqb (getD marks₁ c 0) border ≡ eqb (getD marks₂ c 0) border
+
+pub clear-decides :
+    {n : ℕ} {cap : Float} {distances₁ distances₂ : List Float} {marks₁ marks₂ : List ℕ} → Clear n cap distances₁ marks₁ → Clear n cap distances₂ marks₂
+    → SameReached n distances₁ distances₂ marks₁ marks₂
+clear-decides p q = record {
+  distances = equation-decides (p .unreached) (q .unreached);
+  marks-length = equation-decides (p .marks-length) (q .marks-length);
+  marked = λ c inside. equation-decides (p .unmarked c inside) (q .unmarked c inside);
+}
+
+-- After `begin_at` the same cells wait too, in the same order.
+pub began-at-decides :
+    {origin : ℕ} {times distances distances₁ distances₂ : List Float} {marks queue marks₁ marks₂ queue₁ queue₂ : List ℕ} {ring₁ ring₂ : Ring} → BeginsAt times distances marks queue
+    → BeganAt origin times distances marks queue distances₁ marks₁ queue₁ ring₁ → BeganAt origin times distances marks queue distances₂ marks₂ queue₂ ring₂
+    → SameReached (length distances) distances₁ distances₂ marks₁ marks₂ × SameWaiting queue₁ ring₁ queue₂ ring₂
+began-at-decides {distances = distances} {distances₁} {distances₂} begins began₁ began₂ =
+    let (cap, clear) = begins .clear in
+    let p = began₁ .from cap clear in
+    let q = began₂ .from cap clear in
+    let waiting = equation-decides (p .waiting) (q .waiting) in (
+      record {
+        distances = ext-getD nan distances₁ distances₂ (equation-decides (p .same-distances) (q .same-distances))
+            (λ c inside. let below : c < length distances = rw (p .same-distances) at inside in equation-decides (p .distances-are c below) (q .distances-are c below));
+        marks-length = equation-decides (p .same-marks) (q .same-marks);
+        marked = λ c inside. equation-decides (p .waits .marked c inside) (rw waiting (q .waits .marked c inside));
+      },
+      record { waiting = waiting; slots = equation-decides (p .same-queue) (q .same-queue) },
+    )
 
 -- ---- `take_by_half_sum`, `take_by_time_or_quarter`
 

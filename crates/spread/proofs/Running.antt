@@ -14,7 +14,7 @@ use mir.Syntax.{w64}
 use mir.Val.{Fits}
 use Rattle.cells.specs.Ring.{contents, none, SaysEmpty}
 use Rattle.cells.proofs.Bounds.{bounded}
-use Rattle.fifo.specs.Machine.{Net, initial, run, takes}
+use Rattle.fifo.specs.Machine.{Net, among, initial, run, takes}
 use Rattle.fifo.proofs.Induction.{run-zero, takes-zero}
 use Rattle.fifo.proofs.Lists.{true-or-false, empty-or-not}
 use Rattle.fifo.proofs.Runs.{run-last, takes-last}
@@ -44,6 +44,7 @@ square-fits size bounds counted = let most = bounded size bounds .cells-most in 
 pub ended-turn :
     {search : Search} {ground : Terrain} {before b : Buffers} {r : ℕ} → Turn search ground before b r → contents (b .queue) (b .ring) ≡ []
     → Ran search ground before (b .distances) (b .carried) (b .marks) (b .queue) r
+unfolding among
 ended-turn turn none-waits = record {
   lengths = record {
     distances-length = turn .good .distances-length;
@@ -56,6 +57,7 @@ ended-turn turn none-waits = record {
     stopped = turn .taken net ready .holds .waiting ∙ none-waits;
     labels = turn .taken net ready .holds .labels;
   };
+  unmarked = λ c below. turn .good .waits .marked c below ∙ ap (among c) none-waits;
   kept = turn .kept;
 }
 

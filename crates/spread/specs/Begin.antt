@@ -5,7 +5,7 @@ use mathlib.Core.Path.{_≡_}
 use Prim.Native.Nat.{ℕ, suc, _<_}
 use lib.Dec.{T, eqb}
 use lib.Ieee.{Float, nan}
-use lib.ListN.{length, getD, set}
+use lib.ListN.{length, getD, set, replicate}
 use Rattle.binary32.specs.Nodata.{nodata}
 use Rattle.binary32.specs.Numbers.{plus-zero}
 use Rattle.cells.specs.Ring.{contents}
@@ -16,7 +16,7 @@ use Rattle.spread.specs.declared.search.Search.{Search}
 use Rattle.spread.specs.declared.first.First.{First}
 use Rattle.spread.specs.Nets.{carries}
 use Rattle.spread.specs.Steps.{labelled}
-use Rattle.spread.specs.Waiting.{Waiting, Beginning, Began}
+use Rattle.spread.specs.Waiting.{Waiting, Unmarked, Beginning, Began}
 use Rattle.spread.specs.Buffers.{Buffers}
 use Rattle.spread.specs.First.{net-on, Inputs, FirstOf, Reads, FirstFrom}
 
@@ -83,3 +83,19 @@ pub record BeganFrom (origin : ℕ) (cap : Float) (times distances : List Float)
   pub same-distances : length distances′ ≡ length distances
   pub same-marks : length marks′ ≡ length marks
   pub same-queue : length queue′ ≡ length queue
+
+-- No cell of n is reached: every distance is the cap, and no cell is marked as one that waits. So it is between two starts.
+pub record Clear (n : ℕ) (cap : Float) (distances : List Float) (marks : List ℕ) : Type 0 where
+  pub unreached : distances ≡ replicate n cap
+  pub marks-length : length marks ≡ n
+  pub unmarked : Unmarked n marks
+
+-- A cell is to begin where none is reached.
+pub record BeginsAt (times distances : List Float) (marks queue : List ℕ) : Type 0 where
+  pub times-length : length times ≡ length distances
+  pub queue-length : length queue ≡ suc (length distances)
+  pub clear : (cap : Float) × Clear (length distances) cap distances marks
+
+-- It has begun, and every other cell holds the cap that it held.
+pub record BeganAt (origin : ℕ) (times distances : List Float) (marks queue : List ℕ) (distances′ : List Float) (marks′ queue′ : List ℕ) (ring : Ring) : Type 0 where
+  pub from : (cap : Float) → Clear (length distances) cap distances marks → BeganFrom origin cap times distances marks queue distances′ marks′ queue′ ring

@@ -22,7 +22,7 @@ use Rattle.spread.specs.declared.relax.Left.{Left}
 use Rattle.spread.specs.declared.take.TakenCell.{TakenCell}
 use Rattle.spread.specs.Nets.{carries, reads-times, labels-of}
 use Rattle.spread.specs.Steps.{Terrain, paired, labelled, avoids, Numbers, numbers-of, straight-steps, diagonal-steps, Follows}
-use Rattle.spread.specs.Waiting.{Joining, Joined}
+use Rattle.spread.specs.Waiting.{Unmarked, Joining, Joined}
 use Rattle.spread.specs.Buffers.{Buffers, Good, Holds}
 use Rattle.spread.specs.Begin.{Lengths}
 
@@ -191,8 +191,9 @@ pub record Ended (search : Search) (net : Net Carried) (distances carried : List
   pub stopped : run net r (initial net) .waiting ≡ []
   pub labels : run net r (initial net) .labels ≡ labels-of search distances carried
 
--- So it is for every net that the buffers were ready for.
+-- So it is for every net that the buffers were ready for, and no cell is marked.
 pub record Ran (search : Search) (ground : Terrain) (before : Buffers) (distances carried : List Float) (marks queue : List ℕ) (r : ℕ) : Type 0 where
   pub lengths : Lengths search distances carried marks queue
   pub ended : (net : Net Carried) → Ready search ground net before → Ended search net distances carried r
+  pub unmarked : Unmarked (count (search .size)) marks
   pub kept : carries (search .rule) ≡ false → carried ≡ before .carried

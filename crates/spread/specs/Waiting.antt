@@ -1,5 +1,5 @@
 -- Which cells wait: the ring that holds them, and the marks that say so. Definitions only.
-use mathlib.Core.Bool.{Bool, cond}
+use mathlib.Core.Bool.{Bool, false, cond}
 use mathlib.Core.List.{List, [], _∷_, _++_}
 use mathlib.Core.Path.{_≡_}
 use Prim.Native.Nat.{ℕ, suc, _+_, _≤_, _<_}
@@ -23,6 +23,10 @@ pub record Waiting (seen : ℕ) (marks queue : List ℕ) (ring : Ring) : Type 0 
   pub single : NoDup (contents queue ring)
   pub inside : (c : ℕ) → In c (contents queue ring) → c < seen
   pub marked : (c : ℕ) → c < seen → eqb (getD marks c 0) border ≡ among c (contents queue ring)
+
+-- No cell of n is marked as one that waits.
+abbrev pub Unmarked : ℕ → List ℕ → Type 0
+Unmarked n marks = (c : ℕ) → c < n → eqb (getD marks c 0) border ≡ false
 
 -- A cell is to begin: those before it have.
 pub record Beginning (cell : ℕ) (marks queue : List ℕ) (ring : Ring) : Type 0 where

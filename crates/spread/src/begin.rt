@@ -9,6 +9,7 @@ use crate::first::first_label;
 use crate::relax::carry;
 use crate::search::Rule;
 use crate::search::Search;
+use crate::waiting::MARK_TODO;
 use crate::waiting::begin_waiting;
 use crate::waiting::wait;
 use binary32::infinity;
@@ -17,8 +18,10 @@ use calls::fill_bytes;
 use calls::fill_floats;
 use cells::Ring;
 use cells::cell_count;
+ghost use mathlib.Core.Path.{_≡_};
+ghost use lib.ListN.{length};
 ghost use Rattle.rules.specs.Sizes.{count};
-ghost use Rattle.spread.specs.Begin.{BeginsCell, BeganCell, BeganTo, Begins, BeginsEach, BeginsFrom, BeganFrom};
+ghost use Rattle.spread.specs.Begin.{BeginsCell, BeganCell, BeganTo, Begins, BeginsEach, BeginsFrom, BeganFrom, Clear, BeginsAt, BeganAt};
 ghost use Rattle.spread.specs.Buffers.{buffers};
 
 // One cell begins.
@@ -89,7 +92,39 @@ fn begin_each(
     ring
 }
 
-// One cell begins, at distance 0, and every other at the cap. It waits if its time has data.
+// No cell is reached: every distance is the cap, and no cell is marked.
+pub fn begin_clear(cap: f32, distances: &mut [f32], marks: &mut [u8])
+    requires { ⌜ length (now marks) ≡ length (now distances) ⌝ }
+    ensures { λ _. ⌜ Clear (length (now (distances .entry))) cap (now (distances .exit)) (now (marks .exit)) ⌝ }
+{
+    fill_floats(distances, cap);
+    fill_bytes(marks, MARK_TODO);
+}
+
+// One cell begins, at distance 0, where none is reached. It waits if its time has data.
+pub fn begin_at(
+    origin: u32,
+    times: &[f32],
+    distances: &mut [f32],
+    marks: &mut [u8],
+    queue: &mut [u32],
+) -> Ring
+    requires { ⌜ BeginsAt (now times) (now distances) (now marks) (now queue) ⌝ }
+    ensures { λ r. ⌜ BeganAt origin (now (times .entry)) (now (distances .entry)) (now (marks .entry)) (now (queue .entry))
+        (now (distances .exit)) (now (marks .exit)) (now (queue .exit)) r ⌝ }
+{
+    let ring = Ring::new();
+    let at = origin as usize;
+    if at < distances.len() {
+        distances[at] = 0.0;
+        if !is_nodata(times[at]) {
+            return wait(origin, marks, queue, ring);
+        }
+    }
+    ring
+}
+
+// One cell begins, at distance 0, and every other at the cap.
 fn begin_from(
     origin: u32,
     cap: f32,
@@ -102,17 +137,8 @@ fn begin_from(
     ensures { λ r. ⌜ BeganFrom origin cap (now (times .entry)) (now (distances .entry)) (now (marks .entry)) (now (queue .entry))
         (now (distances .exit)) (now (marks .exit)) (now (queue .exit)) r ⌝ }
 {
-    fill_floats(distances, cap);
-    fill_bytes(marks, 0);
-    let ring = Ring::new();
-    let at = origin as usize;
-    if at < distances.len() {
-        distances[at] = 0.0;
-        if !is_nodata(times[at]) {
-            return wait(origin, marks, queue, ring);
-        }
-    }
-    ring
+    begin_clear(cap, distances, marks);
+    begin_at(origin, times, distances, marks, queue)
 }
 
 // Every cell begins. The rule is matched here, once, so that in each arm the loop has constants for what it looks at.

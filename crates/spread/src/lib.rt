@@ -6,7 +6,9 @@
 // operation on the state that they held before (specs/Buffers.antt).
 //
 // `begin_cells`, `take_by_half_sum` and `take_by_time_or_quarter` are for a loop of one's own that does something
-// with each cell that is taken: proofs/Running.antt and proofs/Tracing.antt have the laws for it.
+// with each cell that is taken: proofs/Running.antt and proofs/Tracing.antt have the laws for it. Where many searches
+// from one cell each follow one another, `begin_clear` begins once for all, and `begin_at` begins each of them, if
+// between two the cells that the last one reached are put back (`Clear` in specs/Begin.antt).
 mod begin;
 mod first;
 mod formulas;
@@ -21,7 +23,9 @@ mod take_edge;
 mod take_inner;
 mod waiting;
 
+pub use begin::begin_at;
 pub use begin::begin_cells;
+pub use begin::begin_clear;
 pub use first::is_target;
 pub use run::spread;
 pub use search::Rule;

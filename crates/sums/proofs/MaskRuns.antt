@@ -1,7 +1,7 @@
 -- The searches from the mask cells in row order, and refusal 7 at the first that is over the budget. Assumes nothing.
 use mathlib.Core.Bool.{Bool, true, false, cond, false≢true}
 use mathlib.Core.List.{List, [], _∷_, _++_, map, map-append, foldl}
-use mathlib.Core.Path.{_≡_, refl, sym, ap, _∙_}
+use mathlib.Core.Path.{_≡_, refl, sym, ap, _∙_, subst}
 use Prim.Native.Nat.{ℕ, _+_, _<_}
 use lib.Ieee.{Float}
 use lib.ListN.{length, set, replicate, length-set}
@@ -10,15 +10,19 @@ use mir.Val.{Fits}
 use Rattle.binary32.specs.Numbers.{plus-zero}
 use Rattle.fifo.specs.Machine.{passing}
 use Rattle.rules.specs.declared.Size.{Size}
+use Rattle.rules.specs.Numbers.{infinity}
 use Rattle.rules.specs.Sizes.{Grid, grid, number-at, Judged, passes, stops, accepted, unless, first-that-holds, count}
 use Rattle.rules.specs.Distances.{target}
 use Rattle.rules.specs.Sums.{Run, run-of, summed-takes, total-takes, from-mask-cell, runs-7, over-budget, sum-of, sums, refusal-7}
 use Rattle.rules.proofs.Refusals.{later-decide}
+use Rattle.spread.specs.Begin.{Clear}
 use Rattle.sums.specs.declared.mask_cell.MaskSum.{MaskSum}
 use Rattle.sums.specs.declared.mask.Searched.{Searched}
 use Rattle.sums.specs.declared.mask.Found.the-variants.{All, Over}
-use Rattle.sums.specs.FromMask.{Lengths, run-from, SummedFrom}
+use Rattle.sums.specs.Between.{BetweenStarts}
+use Rattle.sums.specs.FromMask.{run-from, SummedFrom}
 use Rattle.sums.specs.Mask.{Given, SearchedCell, SearchingMask, mask-outcome, SearchedMask}
+use Rattle.sums.proofs.FromMaskCells.{between-lengths}
 use Rattle.sums.proofs.Starts.{runs-to, runs-next, runs-split, fold-next, total-next, total-fits, total-of-runs}
 
 -- ---- refusal 7
@@ -80,7 +84,7 @@ module _
         → SearchedCell size mask times values limit include-adjacent cell answer (set answer cell (r .sum)) distances′ marks′ listed′ met′ queue′ (record { takes = r .takes; over = r .over })
     mask-searched {r = r} is found = record {
       answer-length = length-set answer cell (r .sum) ∙ answer-long;
-      lengths = found .lengths;
+      between = found .between;
       answered =
           ap (set answer cell) (found .sum-is)
           ∙ ap (λ b. cond b (set answer cell (sum-of (grid size times) (grid size values) limit include-adjacent (run-from size times cell))) answer) (sym is);
@@ -89,11 +93,11 @@ module _
     }
 
     pub mask-passed :
-        {distances : List Float} {marks listed met queue : List ℕ} → target (grid size mask) cell ≡ false → Lengths size distances marks listed met queue
+        {distances : List Float} {marks listed met queue : List ℕ} → target (grid size mask) cell ≡ false → BetweenStarts size infinity distances marks listed met queue
         → SearchedCell size mask times values limit include-adjacent cell answer answer distances marks listed met queue (record { takes = 0; over = false })
-    mask-passed is lengths = record {
+    mask-passed is between = record {
       answer-length = answer-long;
-      lengths = lengths;
+      between = between;
       answered = ap (λ b. cond b (set answer cell (sum-of (grid size times) (grid size values) limit include-adjacent (run-from size times cell))) answer) (sym is);
       counted = ap (λ b. cond b (run-from size times cell .takes) 0) (sym is);
       over-is = ap (λ b. cond b (over-budget (grid size times) limit (run-from size times cell) .0) false) (sym is);
@@ -112,16 +116,43 @@ module _ (size : Size) (mask : List ℕ) (times values : List Float) (limit : Fl
   -- The runs from the first i cells are made, and none is over the budget.
   pub record MaskTo (i : ℕ) (answer distances : List Float) (marks listed met queue : List ℕ) (total : ℕ) : Type 0 where
     pub given : Given size mask times values answer distances marks listed met queue
+    pub between : BetweenStarts size infinity distances marks listed met queue
     pub answered : answer ≡ foldl answer-run (replicate (count size) plus-zero) (mask-runs i)
     pub counted : total ≡ summed-takes 0 (mask-runs i)
     pub none-over : refusal-7 (grid size times) limit (mask-runs i) ≡ passes
 
+module _ {size : Size} {mask : List ℕ} {times values : List Float} where
+  -- The grids are lent still, whatever a search left in the buffers.
+  still-given :
+      {answer answer′ distances distances′ : List Float} {marks marks′ listed listed′ met met′ queue queue′ : List ℕ} → Given size mask times values answer distances marks listed met queue
+      → length answer′ ≡ count size → BetweenStarts size infinity distances′ marks′ listed′ met′ queue′ → Given size mask times values answer′ distances′ marks′ listed′ met′ queue′
+  still-given given answer-long between = record {
+    ways = given .ways;
+    mask-length = given .mask-length;
+    values-length = given .values-length;
+    answer-length = answer-long;
+    lengths = between-lengths between;
+  }
+
+  pub mask-clears : {answer distances : List Float} {marks listed met queue : List ℕ} → SearchingMask size mask times values answer distances marks listed met queue → length marks ≡ length distances
+  mask-clears asked = asked .given .lengths .marks-length ∙ sym (asked .given .lengths .distances-length)
+
 module _ {size : Size} {mask : List ℕ} {times values : List Float} {limit : Float} {include-adjacent : Bool} where
-  pub none-searched :
-      {answer distances : List Float} {marks listed met queue : List ℕ} → SearchingMask size mask times values answer distances marks listed met queue
-      → MaskTo size mask times values limit include-adjacent 0 answer distances marks listed met queue 0
-  unfolding passing refusal-7 first-that-holds
-  none-searched asked = record { given = asked .given; answered = asked .none-answered; counted = refl; none-over = refl }
+  -- Before the first start no cell is reached and none is met.
+  module _ {answer distances : List Float} {marks listed met queue : List ℕ} (asked : SearchingMask size mask times values answer distances marks listed met queue) where
+    pub none-searched :
+        {cap : Float} {distances₁ : List Float} {marks₁ met₁ : List ℕ} → cap ≡ infinity → Clear (length distances) cap distances₁ marks₁ → met₁ ≡ replicate (length met) 0
+        → MaskTo size mask times values limit include-adjacent 0 answer distances₁ marks₁ listed met₁ queue 0
+    unfolding passing refusal-7 first-that-holds
+    none-searched {cap} {distances₁} {marks₁} {met₁} is clear cleared =
+        let long = asked .given .lengths in
+        let between : BetweenStarts size infinity distances₁ marks₁ listed met₁ queue = record {
+          clear = subst (λ n. Clear n infinity distances₁ marks₁) (long .distances-length) (subst (λ d. Clear (length distances) d distances₁ marks₁) is clear);
+          none-met = cleared ∙ ap (λ n. replicate n 0) (long .met-length);
+          listed-length = long .listed-length;
+          queue-length = long .queue-length;
+        } in
+        record { given = still-given (asked .given) (asked .given .answer-length) between; between = between; answered = asked .none-answered; counted = refl; none-over = refl }
 
   module _
       {i : ℕ} {answer distances : List Float} {marks listed met queue : List ℕ} {total : ℕ}
@@ -131,13 +162,8 @@ module _ {size : Size} {mask : List ℕ} {times values : List Float} {limit : Fl
     where
       pub next-searched : r .over ≡ false → MaskTo size mask times values limit include-adjacent (i + 1) answer′ distances′ marks′ listed′ met′ queue′ (total + r .takes)
       next-searched within = record {
-        given = record {
-          ways = at .given .ways;
-          mask-length = at .given .mask-length;
-          values-length = at .given .values-length;
-          answer-length = found .answer-length;
-          lengths = found .lengths;
-        };
+        given = still-given (at .given) (found .answer-length) (found .between);
+        between = found .between;
         answered =
             found .answered
             ∙ ap (λ l. cond (target (grid size mask) i) (answer-run size mask times values limit include-adjacent l (run-from size times i)) l) (at .answered)
@@ -156,7 +182,7 @@ module _ {size : Size} {mask : List ℕ} {times values : List Float} {limit : Fl
           let (selected, beyond) = both-chosen (target (grid size mask) i) (over-budget (grid size times) limit (run-from size times i) .0) (sym (found .over-is) ∙ over) in
           record {
             answer-length = found .answer-length;
-            lengths = found .lengths;
+            lengths = between-lengths (found .between);
             outcome = sym (ap (λ (j : Judged). unless j (λ search. accepted (total-takes (mask-runs size mask times values limit include-adjacent (count size))) (sums (grid size times) (grid size values) limit include-adjacent (mask-runs size mask times values limit include-adjacent (count size)))))
                 (over-at (grid size times) limit (target (grid size mask)) i (count size) inside (at .none-over) selected beyond));
           }

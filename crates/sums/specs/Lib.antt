@@ -2,6 +2,7 @@ pub mod Ways
 pub mod Gain
 pub mod FromAmounts
 pub mod Listed
+pub mod Between
 pub mod FromMask
 pub mod Mask
 pub mod Promise

@@ -7,6 +7,7 @@ use lib.Ieee.{Float}
 use lib.ListN.{length, set, replicate}
 use Rattle.binary32.specs.Numbers.{plus-zero}
 use Rattle.rules.specs.declared.Size.{Size}
+use Rattle.rules.specs.Numbers.{infinity}
 use Rattle.rules.specs.Sizes.{grid, number-at, Outcome, refused, accepted, count}
 use Rattle.rules.specs.Distances.{target}
 use Rattle.rules.specs.Sums.{from-mask-cell, sum-of, over-budget, found-7}
@@ -16,6 +17,7 @@ use Rattle.sums.specs.declared.mask.Searched.{Searched}
 use Rattle.sums.specs.declared.mask.Found.{Found}
 use Rattle.sums.specs.declared.mask.Found.the-variants.{All, Over}
 use Rattle.sums.specs.Ways.{Ways}
+use Rattle.sums.specs.Between.{BetweenStarts}
 use Rattle.sums.specs.FromMask.{Lengths, run-from}
 
 -- The grids are lent, and the answer and the buffers.
@@ -28,6 +30,7 @@ pub record Given (size : Size) (mask : List ℕ) (times values answer distances 
 
 pub record SearchingCell (size : Size) (mask : List ℕ) (times values : List Float) (cell : ℕ) (answer distances : List Float) (marks listed met queue : List ℕ) : Type 0 where
   pub given : Given size mask times values answer distances marks listed met queue
+  pub between : BetweenStarts size infinity distances marks listed met queue
   pub inside : cell < count size
 
 -- A cell that the mask selects has its sum for an answer; nothing is done for any other.
@@ -36,7 +39,7 @@ pub record SearchedCell
     (marks′ listed′ met′ queue′ : List ℕ) (r : Searched)
     : Type 0 where
   pub answer-length : length answer′ ≡ count size
-  pub lengths : Lengths size distances′ marks′ listed′ met′ queue′
+  pub between : BetweenStarts size infinity distances′ marks′ listed′ met′ queue′
   pub answered :
       answer′
       ≡ cond (target (grid size mask) cell) (set answer cell (sum-of (grid size times) (grid size values) limit include-adjacent (run-from size times cell))) answer

@@ -1,7 +1,10 @@
 // The searches from the mask cells, one after the other in row order, up to the first that is over the budget.
 use crate::mask_cell::sum_from;
+use binary32::infinity;
+use calls::fill_cells;
 use cells::cell_count;
 use rules::Size;
+use spread::begin_clear;
 use spread::is_target;
 ghost use Rattle.sums.specs.Mask.{SearchingCell, SearchedCell, SearchingMask, SearchedMask};
 
@@ -64,7 +67,8 @@ fn search_cell(
     }
 }
 
-// The searches from all cells that the mask selects, unless one is over the budget.
+// The searches from all cells that the mask selects, unless one is over the budget. The buffers are cleared once: each
+// search puts back what it reached.
 pub fn search_mask(
     size: Size,
     mask: &[u8],
@@ -83,6 +87,8 @@ pub fn search_mask(
     ensures { λ r. ⌜ SearchedMask size (now (mask .entry)) (now (times .entry)) (now (values .entry)) limit «include_adjacent»
         (now (answer .exit)) (now (distances .exit)) (now (marks .exit)) (now (listed .exit)) (now (met .exit)) (now (queue .exit)) r ⌝ }
 {
+    begin_clear(infinity(), distances, marks);
+    fill_cells(met, 0);
     let end = cell_count(size) as u32;
     let mut total: u64 = 0;
     let mut cell: u32 = 0;

@@ -1,21 +1,23 @@
 // The search from one mask cell, and the sum of what it reached.
 use crate::listing::Reached;
 use crate::listing::run_listing;
-use calls::fill_cells;
+use binary32::infinity;
 use reach::add_adjacent;
 use reach::add_listed;
+use reach::clear_distances;
+use reach::clear_met;
 use reach::is_over_budget;
 use reach::list_cell;
 use rules::Size;
 use spread::Rule;
 use spread::Search;
-use spread::begin_cells;
+use spread::begin_at;
 ghost use lib.ListN.{take};
 ghost use Rattle.reach.specs.Adjacent.{Beside};
 ghost use Rattle.sums.specs.FromMask.{Reaching, ReachedFrom, SumReached, Summing, SummedFrom};
 
 // Searches from the mask cell and lists the cells that it reached. The mask cell is listed also where its time is
-// nodata, and nothing is taken. What is lent for targets, obstacles and values is never read.
+// nodata, and nothing is taken. What is lent for obstacles and for values that go along is never read.
 fn reach_from(
     size: Size,
     times: &[f32],
@@ -36,19 +38,8 @@ fn reach_from(
         limit: 0.0,
     };
     let bytes = [0; 1];
-    let values = [0.0; 1];
     let mut carried = [0.0; 1];
-    fill_cells(met, 0);
-    let ring = begin_cells(
-        search,
-        &bytes,
-        times,
-        &values,
-        distances,
-        &mut carried,
-        marks,
-        queue,
-    );
+    let ring = begin_at(start, times, distances, marks, queue);
     let reached = run_listing(
         search,
         &bytes,
@@ -96,7 +87,8 @@ pub struct MaskSum {
     pub sum: f32,
 }
 
-// Searches from one mask cell, without a bound, and adds up what it reached.
+// Searches from one mask cell, without a bound, and adds up what it reached. What it left is put back, so that the next
+// can start.
 pub fn sum_from(
     size: Size,
     times: &[f32],
@@ -127,6 +119,8 @@ pub fn sum_from(
         include_adjacent,
         met,
     );
+    clear_distances(listed, count, infinity(), distances);
+    clear_met(size, listed, count, include_adjacent, met);
     MaskSum {
         takes: reached.takes,
         over,

@@ -3,8 +3,8 @@ use mathlib.Core.Path.{_≡_}
 use Prim.Native.Nat.{_≤_, _-_}
 use native.Mathlib.Omega.{arith}
 use lib.ListN.{take}
-use Rattle.reach.specs.Adjacent.{Adjoins}
-use Rattle.reach.proofs.Around.{still-fitting, beside, beside-none, beside-more, all-added}
+use Rattle.reach.specs.Adjacent.{beside, Adjoins}
+use Rattle.reach.proofs.Around.{still-fitting, beside-none, beside-more, all-added}
 use Rattle.reach.proofs.adjacent.add_adjacent.Statement.{statement}
 use Rattle.reach.proofs.adjacent.add_adjacent.Tie as tie
 

@@ -42,7 +42,7 @@ returns : tie.Need-returns
 returns c = mask-searched (c .before .before .before .before .before .before .before .before .before .before .before .before .before .before .before .before .before .before .before .before .before .before .before .before .before .before .before .before .pre .given .answer-length) (sym (c .before .before .before .before .before .before .before .before .before .before .before .before .before .before .before .before .before .is-target .ensures) ∙ c .before .before .before .before .before .before .before .before .before .before .before .before .before .before .before .before .if1 .taken) (c .before .before .before .before .before .before .before .before .before .before .sum-from .ensures)
 
 returns-2 : tie.Need-returns-2
-returns-2 c = mask-passed (c .before .before .before .before .before .before .before .before .before .before .before .before .pre .given .answer-length) (sym (c .before .is-target .ensures) ∙ c .if1 .left) (c .before .before .before .before .before .before .before .before .before .before .before .before .pre .given .lengths)
+returns-2 c = mask-passed (c .before .before .before .before .before .before .before .before .before .before .before .before .pre .given .answer-length) (sym (c .before .is-target .ensures) ∙ c .if1 .left) (c .before .before .before .before .before .before .before .before .before .before .before .before .pre .between)
 
 pub search-cell-spec : {M : Type 1} → statement M
 search-cell-spec =

@@ -1,5 +1,5 @@
 -- `mask_cell::sum_from` meets its contract. Assumes nothing.
-use Rattle.sums.proofs.FromMaskCells.{reached-cells, reached-beside, summed-from}
+use Rattle.sums.proofs.FromMaskCells.{reached-cells, reached-beside, reached-clearing, summed-from}
 use borrow.Author.Needs.{needs}
 use Rattle.sums.proofs.mask_cell.sum_from.Statement.{statement}
 use Rattle.sums.proofs.mask_cell.sum_from.Tie as tie
@@ -12,6 +12,15 @@ is-over-budget-requires c κs = reached-cells (c .before .before .before .before
 
 sum-reached-requires : tie.Need-sum-reached-requires
 sum-reached-requires c κs = reached-beside (c .before .before .before .before .before .before .before .before .before .before .before .before .before .before .before .before .before .before .before .before .before .before .before .before .before .before .before .before .before .pre) (c .before .before .before .before .before .before .before .before .before .before .before .before .before .before .before .before .reach-from .ensures)
+
+infinity-requires : tie.Need-infinity-requires
+infinity-requires c κs = search needs
+
+clear-distances-requires : tie.Need-clear-distances-requires
+clear-distances-requires c κs = reached-cells (c .before .before .before .before .before .before .before .before .before .before .before .before .before .before .before .before .before .before .before .before .before .before .before .before .before .before .before .before .before .before .before .before .before .before .before .pre) (c .before .before .before .before .before .before .before .before .before .before .before .before .before .before .before .before .before .before .before .before .before .before .reach-from .ensures)
+
+clear-met-requires : tie.Need-clear-met-requires
+clear-met-requires c κs = reached-clearing (c .before .before .before .before .before .before .before .before .before .before .before .before .before .before .before .before .before .before .before .before .before .before .before .before .before .before .before .before .before .before .before .before .before .before .before .before .before .before .before .before .pre) (c .before .before .before .before .before .before .before .before .before .before .before .before .before .before .before .before .before .before .before .before .before .before .before .before .before .before .before .reach-from .ensures) (c .before .before .before .before .before .before .before .before .before .before .sum-reached .ensures .marks .long)
 
 same-length : tie.Need-same-length
 same-length c = search needs
@@ -29,7 +38,7 @@ same-length-5 : tie.Need-same-length-5
 same-length-5 c = search needs
 
 returns : tie.Need-returns
-returns c = summed-from (c .before .before .before .before .before .before .before .before .before .before .before .before .before .before .before .before .before .before .before .before .before .before .before .before .before .before .before .before .before .before .before .before .pre) (c .before .before .before .before .before .before .before .before .before .before .before .before .before .before .before .before .before .before .before .reach-from .ensures) (c .before .before .before .before .before .before .is-over-budget .ensures) (c .before .before .sum-reached .ensures)
+returns c = summed-from (c .before .before .before .before .before .before .before .before .before .before .before .before .before .before .before .before .before .before .before .before .before .before .before .before .before .before .before .before .before .before .before .before .before .before .before .before .before .before .before .before .before .before .before .pre) (c .before .before .before .before .before .before .before .before .before .before .before .before .before .before .before .before .before .before .before .before .before .before .before .before .before .before .before .before .before .before .reach-from .ensures) (c .before .before .before .before .before .before .before .before .before .before .before .before .before .before .before .before .before .is-over-budget .ensures) (c .before .before .before .before .before .before .before .before .before .before .before .before .before .sum-reached .ensures) (c .before .before .before .before .before .before .before .before .before .infinity .ensures) (c .before .before .before .before .before .before .before .clear-distances .ensures) (c .before .before .clear-met .ensures)
 
 pub sum-from-spec : {M : Type 1} → statement M
 sum-from-spec =
@@ -38,6 +47,9 @@ sum-from-spec =
     reach-from-requires
     is-over-budget-requires
     sum-reached-requires
+    infinity-requires
+    clear-distances-requires
+    clear-met-requires
     same-length
     same-length-2
     same-length-3

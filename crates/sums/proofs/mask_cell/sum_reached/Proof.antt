@@ -17,7 +17,7 @@ returns : tie.Need-returns
 returns c = sum-with (c .before .before .before .before .before .add-listed .ensures) (c .before .before .before .before .if1 .taken) (c .before .before .add-adjacent .ensures)
 
 returns-2 : tie.Need-returns-2
-returns-2 c = sum-without (c .before .add-listed .ensures) (c .if1 .left) (c .before .before .before .before .before .before .pre .fits .met-long)
+returns-2 c = sum-without (c .before .add-listed .ensures) (c .if1 .left) (c .before .before .before .before .before .before .pre .marks)
 
 pub sum-reached-spec : {M : Type 1} → statement M
 sum-reached-spec =
