@@ -222,7 +222,52 @@ more =
     (outcome-5 (row (1 ∷ 0 ∷ 0 ∷ [])) (row (nan ∷ whole 4 ∷ whole 1 ∷ [])) (row (whole 7 ∷ whole 9 ∷ nan ∷ [])) (lent 3 2), takes-and-answer 2 (whole 7 ∷ whole 7 ∷ nan ∷ [])) ∷
     -- a mask cell with nodata time is listed alone, nothing taken, and the cell beside it is adjacent
     (outcome-7 (row (1 ∷ 0 ∷ [])) (row (nan ∷ whole 4 ∷ [])) (row (whole 7 ∷ whole 9 ∷ [])) (whole 3) false (lent 2 4), takes-and-answer 0 (whole 7 ∷ plus-zero ∷ [])) ∷
-    (outcome-7 (row (1 ∷ 0 ∷ [])) (row (nan ∷ whole 4 ∷ [])) (row (whole 7 ∷ whole 9 ∷ [])) (whole 3) true (lent 2 4), takes-and-answer 0 (whole 16 ∷ plus-zero ∷ [])) ∷ []
+    (outcome-7 (row (1 ∷ 0 ∷ [])) (row (nan ∷ whole 4 ∷ [])) (row (whole 7 ∷ whole 9 ∷ [])) (whole 3) true (lent 2 4), takes-and-answer 0 (whole 16 ∷ plus-zero ∷ [])) ∷
+    -- adjacent cells are added after the list, above before below, left before right, below before left, and none by a diagonal: 1 + large is large
+    (
+      outcome-7 (grid 3 1 (0 ∷ 1 ∷ 0 ∷ [])) (grid 3 1 (nan ∷ whole 1 ∷ nan ∷ [])) (grid 3 1 (large ∷ whole 1 ∷ neg large ∷ [])) (whole 9) true (lent 3 4),
+      takes-and-answer 1 (plus-zero ∷ plus-zero ∷ plus-zero ∷ []),
+    ) ∷ (
+      outcome-7 (row (0 ∷ 1 ∷ 0 ∷ [])) (row (nan ∷ whole 1 ∷ nan ∷ [])) (row (large ∷ whole 1 ∷ neg large ∷ [])) (whole 9) true (lent 3 4),
+      takes-and-answer 1 (plus-zero ∷ plus-zero ∷ plus-zero ∷ []),
+    ) ∷ (
+      outcome-7 (grid 3 3 (0 ∷ 0 ∷ 0 ∷ 0 ∷ 1 ∷ 0 ∷ 0 ∷ 0 ∷ 0 ∷ [])) (grid 3 3 (nan ∷ nan ∷ nan ∷ nan ∷ whole 1 ∷ nan ∷ nan ∷ nan ∷ nan ∷ []))
+          (grid 3 3 (whole 2 ∷ nan ∷ whole 4 ∷ neg large ∷ whole 1 ∷ nan ∷ whole 8 ∷ large ∷ whole 16 ∷ [])) (whole 9) true (lent 9 4),
+      takes-and-answer 1 (replicate 9 plus-zero),
+    ) ∷
+    -- the cells beside the first listed cell come first
+    (
+      outcome-7 (row (0 ∷ 0 ∷ 1 ∷ 0 ∷ [])) (row (nan ∷ whole 1 ∷ whole 1 ∷ nan ∷ [])) (row (neg large ∷ plus-zero ∷ whole 1 ∷ large ∷ [])) (whole 9) true (lent 4 4),
+      takes-and-answer 2 (replicate 4 plus-zero),
+    ) ∷
+    -- 255 is an obstacle
+    (outcome-2 (row (1 ∷ 0 ∷ [])) (row (0 ∷ 255 ∷ [])) (spacing plus-zero) Include (lent 2 1), takes-and-answer 1 (plus-zero ∷ infinity ∷ [])) ∷
+    -- one side blocked, the other one
+    (outcome-2 (grid 2 2 (1 ∷ 0 ∷ 0 ∷ 0 ∷ [])) (grid 2 2 (0 ∷ 0 ∷ 1 ∷ 0 ∷ [])) (spacing plus-zero) Exclude (lent 4 1), answer (plus-zero ∷ whole 1 ∷ infinity ∷ diagonal ∷ [])) ∷
+    -- a nodata time in 8 is 0x7e7fffff, no more and no less: that is below the next number, and not below itself
+    (outcome-8 (row (whole 1 ∷ nan ∷ [])) (row (whole 5 ∷ plus-zero ∷ [])) (ofBits binary32 0x7e80_0000) (lent 2 3), takes-and-answer 2 (whole 5 ∷ whole 5 ∷ [])) ∷
+    (outcome-8 (row (whole 1 ∷ nan ∷ [])) (row (whole 5 ∷ plus-zero ∷ [])) (ofBits binary32 0x7e7f_ffff) (lent 2 3), takes-and-answer 1 (whole 5 ∷ plus-zero ∷ [])) ∷
+    -- values are added from +0.0, and an amount of -0.0 is 0
+    (outcome-7 (row (1 ∷ [])) (row (whole 1 ∷ [])) (row (neg plus-zero ∷ [])) (whole 9) false (lent 1 4), takes-and-answer 1 (plus-zero ∷ [])) ∷
+    (outcome-8 (row (whole 1 ∷ [])) (row (neg plus-zero ∷ [])) (whole 9) (lent 1 3), takes-and-answer 0 (plus-zero ∷ [])) ∷
+    -- an infinity is data: as a time of 3, and as a value of 4, 5, 6 and 7
+    (outcome-3 (row (1 ∷ 0 ∷ [])) (row (whole 1 ∷ infinity ∷ [])) infinity (lent 2 1), takes-and-answer 1 (plus-zero ∷ infinity ∷ [])) ∷
+    (outcome-4 (row (1 ∷ 0 ∷ [])) (row (infinity ∷ nan ∷ [])) (lent 2 2), takes-and-answer 2 (infinity ∷ infinity ∷ [])) ∷
+    (outcome-5 (row (1 ∷ 0 ∷ [])) (row (whole 1 ∷ whole 1 ∷ [])) (row (infinity ∷ whole 9 ∷ [])) (lent 2 2), takes-and-answer 2 (infinity ∷ infinity ∷ [])) ∷
+    (outcome-6 (row (1 ∷ 0 ∷ [])) (row (whole 1 ∷ whole 1 ∷ [])) (row (whole 7 ∷ neg infinity ∷ [])) (whole 9) (lent 2 2), takes-and-answer 2 (whole 7 ∷ whole 7 ∷ [])) ∷
+    (outcome-7 (row (1 ∷ 0 ∷ [])) (row (whole 1 ∷ whole 1 ∷ [])) (row (whole 7 ∷ neg infinity ∷ [])) (whole 9) false (lent 2 4), takes-and-answer 2 (neg infinity ∷ plus-zero ∷ [])) ∷
+    -- a cell size that is negative or NaN
+    (outcome-1 (row (1 ∷ [])) (record { «cell_size» = minus-one; limit = infinity }) (lent 1 1), refusal (number 4)) ∷
+    (outcome-1 (row (1 ∷ [])) (record { «cell_size» = nan; limit = infinity }) (lent 1 1), refusal (number 4)) ∷
+    (outcome-2 (row (1 ∷ [])) (row (0 ∷ [])) (record { «cell_size» = neg infinity; limit = plus-zero }) Include (lent 1 1), refusal (number 4)) ∷
+    -- the last cell is taken twice, at the root of 2 and at 1, and gains once; with the budget 1.25 only the second time
+    (
+      outcome-8 (grid 2 3 (plus-zero ∷ plus-zero ∷ plus-zero ∷ plus-zero ∷ whole 1 ∷ whole 1 ∷ [])) (grid 2 3 (plus-zero ∷ plus-zero ∷ plus-zero ∷ whole 5 ∷ plus-zero ∷ plus-zero ∷ [])) (whole 9) (lent 6 3),
+      takes-and-answer 7 (replicate 6 (whole 5)),
+    ) ∷ (
+      outcome-8 (grid 2 3 (plus-zero ∷ plus-zero ∷ plus-zero ∷ plus-zero ∷ whole 1 ∷ whole 1 ∷ [])) (grid 2 3 (plus-zero ∷ plus-zero ∷ plus-zero ∷ whole 5 ∷ plus-zero ∷ plus-zero ∷ [])) (ofBits binary32 0x3fa0_0000) (lent 6 3),
+      takes-and-answer 7 (replicate 6 (whole 5)),
+    ) ∷ []
 
 pub more-grids : all-heard more ≡ all-said more
 unfolding more rules-computing
