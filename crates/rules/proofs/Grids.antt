@@ -15,7 +15,7 @@ use Rattle.rules.specs.Sizes.{Size, Grid, Spacing, in-bounds, Lent, Refu
 use Rattle.rules.specs.Computing.{rules-computing}
 use Rattle.rules.specs.Distances.{outcome-1, outcome-2, outcome-3}
 use Rattle.rules.specs.Values.{outcome-4, outcome-5, outcome-6}
-use Rattle.rules.specs.Sums.{outcome-7, outcome-8}
+use Rattle.rules.specs.Sums.{Run, total-takes, outcome-7, outcome-8}
 
 -- What the document says of a grid: its answer, its takes too, or a refusal.
 pub data Said : Type 0 where
@@ -185,6 +185,29 @@ more =
     (outcome-8 (row (minus-one ∷ [])) (grid 1 1 []) nan (lent 1 3), refusal (number 3)) ∷
     (outcome-8 (row (minus-one ∷ [])) (row (nan ∷ [])) minus-one (lent 1 3), refusal (number 5)) ∷
     (outcome-8 (row (nan ∷ minus-one ∷ [])) (row (nan ∷ nan ∷ [])) infinity (lent 2 3), refusal (number-at 6 1)) ∷
+    -- a size that differs alone
+    (outcome-5 (row (1 ∷ [])) (row []) (row (nan ∷ [])) (lent 1 2), refusal (number 2)) ∷
+    (outcome-6 (row (1 ∷ [])) (row (minus-one ∷ [])) (row []) nan (lent 1 2), refusal (number 2)) ∷
+    (outcome-7 (row (1 ∷ [])) (row []) (row (nan ∷ [])) nan false (lent 1 4), refusal (number 2)) ∷
+    (outcome-7 (row (1 ∷ [])) (row (minus-one ∷ [])) (row []) nan false (lent 1 4), refusal (number 2)) ∷
+    -- a grid that alone has not its length, and the last of the lent slices
+    (outcome-1 (grid 1 1 []) bad-spacing (lent 1 1), refusal (number 3)) ∷
+    (outcome-2 (grid 1 1 []) (row (0 ∷ [])) bad-spacing Include (lent 1 1), refusal (number 3)) ∷
+    (outcome-3 (grid 1 1 []) (row (minus-one ∷ [])) nan (lent 1 1), refusal (number 3)) ∷
+    (outcome-3 (row (1 ∷ [])) (grid 1 1 []) nan (lent 1 1), refusal (number 3)) ∷
+    (outcome-4 (grid 1 1 []) (row (nan ∷ [])) (lent 1 2), refusal (number 3)) ∷
+    (outcome-4 (row (1 ∷ [])) (grid 1 1 []) (lent 1 2), refusal (number 3)) ∷
+    (outcome-5 (grid 1 1 []) (row (minus-one ∷ [])) (row (nan ∷ [])) (lent 1 2), refusal (number 3)) ∷
+    (outcome-5 (row (1 ∷ [])) (grid 1 1 (minus-one ∷ minus-one ∷ [])) (row (nan ∷ [])) (lent 1 2), refusal (number 3)) ∷
+    (outcome-6 (grid 1 1 []) (row (minus-one ∷ [])) (row (nan ∷ [])) nan (lent 1 2), refusal (number 3)) ∷
+    (outcome-6 (row (1 ∷ [])) (grid 1 1 []) (row (nan ∷ [])) (whole 1) (lent 1 2), refusal (number 3)) ∷
+    (outcome-6 (row (1 ∷ [])) (row (whole 1 ∷ [])) (grid 1 1 []) (whole 1) (lent 1 2), refusal (number 3)) ∷
+    (outcome-7 (grid 1 1 []) (row (whole 1 ∷ [])) (row (whole 1 ∷ [])) (whole 1) false (lent 1 4), refusal (number 3)) ∷
+    (outcome-7 (row (1 ∷ [])) (grid 1 1 []) (row (whole 1 ∷ [])) (whole 1) false (lent 1 4), refusal (number 3)) ∷
+    (outcome-7 (row (1 ∷ [])) (row (whole 1 ∷ [])) (grid 1 1 []) (whole 1) false (lent 1 4), refusal (number 3)) ∷
+    (outcome-8 (grid 1 1 []) (row (whole 1 ∷ [])) (whole 1) (lent 1 3), refusal (number 3)) ∷
+    (outcome-8 (row (whole 1 ∷ [])) (row (whole 1 ∷ [])) (whole 1) (record { lengths = 1 ∷ 1 ∷ 1 ∷ 2 ∷ []; queue-length = 2 }), refusal (number 3)) ∷
+    (outcome-8 (row (whole 1 ∷ [])) (row (whole 1 ∷ [])) (whole 1) (record { lengths = 1 ∷ 1 ∷ 1 ∷ 1 ∷ []; queue-length = 3 }), refusal (number 3)) ∷
     -- the eight neighbours in trying order: any other order loses the 1 in the middle
     (
       outcome-7 (grid 3 3 (0 ∷ 0 ∷ 0 ∷ 0 ∷ 1 ∷ 0 ∷ 0 ∷ 0 ∷ 0 ∷ [])) (grid 3 3 (replicate 9 (whole 1)))
@@ -240,6 +263,10 @@ more =
       outcome-7 (row (0 ∷ 0 ∷ 1 ∷ 0 ∷ [])) (row (nan ∷ whole 1 ∷ whole 1 ∷ nan ∷ [])) (row (neg large ∷ plus-zero ∷ whole 1 ∷ large ∷ [])) (whole 9) true (lent 4 4),
       takes-and-answer 2 (replicate 4 plus-zero),
     ) ∷
+    -- where no time is needed a distance stays the same, and no cell is taken again
+    (outcome-3 (row (1 ∷ 0 ∷ [])) (row (plus-zero ∷ plus-zero ∷ [])) infinity (lent 2 1), takes-and-answer 2 (plus-zero ∷ plus-zero ∷ [])) ∷
+    (outcome-5 (row (1 ∷ 0 ∷ [])) (row (plus-zero ∷ plus-zero ∷ [])) (row (whole 7 ∷ whole 9 ∷ [])) (lent 2 2), takes-and-answer 2 (whole 7 ∷ whole 7 ∷ [])) ∷
+    (outcome-7 (row (1 ∷ 0 ∷ [])) (row (plus-zero ∷ plus-zero ∷ [])) (row (whole 7 ∷ whole 9 ∷ [])) (whole 3) false (lent 2 4), takes-and-answer 2 (whole 16 ∷ plus-zero ∷ [])) ∷
     -- 255 is an obstacle
     (outcome-2 (row (1 ∷ 0 ∷ [])) (row (0 ∷ 255 ∷ [])) (spacing plus-zero) Include (lent 2 1), takes-and-answer 1 (plus-zero ∷ infinity ∷ [])) ∷
     -- one side blocked, the other one
@@ -272,6 +299,19 @@ more =
 pub more-grids : all-heard more ≡ all-said more
 unfolding more rules-computing
 more-grids = refl
+
+-- ---- what no small grid reaches
+
+-- A run of which only the takes are looked at.
+abbrev taking : ℕ → Run
+taking takes = record { from = 0; takes = takes; ends = record { labels = []; waiting = []; entered = [] } }
+
+-- A total above 18,446,744,073,709,551,615 is given as that number.
+pub totals-of-takes :
+    map total-takes ((taking 3 ∷ taking 18446744073709551611 ∷ []) ∷ (taking 3 ∷ taking 18446744073709551612 ∷ []) ∷ (taking 18446744073709551612 ∷ taking 4 ∷ []) ∷ [])
+    ≡ 18446744073709551614 ∷ 18446744073709551615 ∷ 18446744073709551615 ∷ []
+unfolding total-takes
+totals-of-takes = refl
 
 -- ---- the bounds
 
