@@ -90,6 +90,23 @@ fn keen(random: &mut Random, case: &mut Case, rows: usize, cols: usize) {
     }
 }
 
+/// A case of search 7 with adjacent cells, to 4 by 4: half of the times are nodata, so that there is much beside what is
+/// reached, the budget is above every distance, and the values are such that another order of adding them tells.
+pub fn beside(seed: u64, index: u64) -> Case {
+    let random = &mut Random::new(seed ^ 0xBE51DE << 40, index);
+    let (rows, cols) = (1 + index as usize % 4, 1 + index as usize / 4 % 4);
+    let n = rows * cols;
+    let mut case = Case::new(Search::SumWithinTravelDistance);
+    case.targets = Some(grid(rows, cols, (0..n).map(|_| random.chance(30) as u8).collect()));
+    let time = |random: &mut Random| if random.chance(50) { values::any_nan(random) } else { random.below(10) as f32 };
+    case.times = Some(grid(rows, cols, (0..n).map(|_| time(random)).collect()));
+    let lossy = [1.0, 3.0, 16_777_216.0, 16_777_216.0, -16_777_216.0, -16_777_216.0];
+    case.values = Some(grid(rows, cols, (0..n).map(|_| random.pick(&lossy)).collect()));
+    case.adjacent = true;
+    case.limit = 1000.0;
+    case
+}
+
 fn size(random: &mut Random, sizes: Sizes, index: usize) -> (usize, usize) {
     let small = index / 4 * 3 + index % 4;
     let to_6_by_6 = (1 + small % 6, 1 + small / 6 % 6);
