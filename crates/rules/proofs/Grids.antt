@@ -294,6 +294,12 @@ more =
     ) ∷ (
       outcome-8 (grid 2 3 (plus-zero ∷ plus-zero ∷ plus-zero ∷ plus-zero ∷ whole 1 ∷ whole 1 ∷ [])) (grid 2 3 (plus-zero ∷ plus-zero ∷ plus-zero ∷ whole 5 ∷ plus-zero ∷ plus-zero ∷ [])) (ofBits binary32 0x3fa0_0000) (lent 6 3),
       takes-and-answer 7 (replicate 6 (whole 5)),
+    ) ∷
+    -- more than twice as many takes as cells: the cell above right gains at the last of them
+    (
+      outcome-8 (grid 3 5 (map (λ k. div binary32 (whole k) (whole 64)) (0 ∷ 3 ∷ 0 ∷ 1 ∷ 2 ∷ 0 ∷ 16 ∷ 12 ∷ 0 ∷ 0 ∷ 8 ∷ 24 ∷ 32 ∷ 1 ∷ 16 ∷ [])))
+          (grid 3 5 (map whole (0 ∷ 0 ∷ 0 ∷ 0 ∷ 0 ∷ 0 ∷ 0 ∷ 0 ∷ 0 ∷ 0 ∷ 0 ∷ 5 ∷ 0 ∷ 0 ∷ 0 ∷ []))) (ofBits binary32 0x3dad_0000) (lent 15 3),
+      takes-and-answer 33 (map whole (5 ∷ 5 ∷ 5 ∷ 5 ∷ 5 ∷ 5 ∷ 0 ∷ 0 ∷ 5 ∷ 5 ∷ 0 ∷ 5 ∷ 0 ∷ 5 ∷ 0 ∷ [])),
     ) ∷ []
 
 pub more-grids : all-heard more ≡ all-said more
