@@ -190,6 +190,9 @@ more =
     (outcome-6 (row (1 ∷ [])) (row (minus-one ∷ [])) (row []) nan (lent 1 2), refusal (number 2)) ∷
     (outcome-7 (row (1 ∷ [])) (row []) (row (nan ∷ [])) nan false (lent 1 4), refusal (number 2)) ∷
     (outcome-7 (row (1 ∷ [])) (row (minus-one ∷ [])) (row []) nan false (lent 1 4), refusal (number 2)) ∷
+    -- rows that differ alone, either way
+    (outcome-2 (grid 1 0 []) (grid 2 0 []) bad-spacing Include (lent 0 1), refusal (number 2)) ∷
+    (outcome-2 (grid 2 0 []) (grid 1 0 []) bad-spacing Include (lent 0 1), refusal (number 2)) ∷
     -- a grid that alone has not its length, and the last of the lent slices
     (outcome-1 (grid 1 1 []) bad-spacing (lent 1 1), refusal (number 3)) ∷
     (outcome-2 (grid 1 1 []) (row (0 ∷ [])) bad-spacing Include (lent 1 1), refusal (number 3)) ∷
@@ -223,6 +226,8 @@ more =
     (outcome-8 (row (whole 2 ∷ whole 4 ∷ [])) (row (whole 5 ∷ plus-zero ∷ [])) (whole 4) (lent 2 3), answer (whole 5 ∷ whole 5 ∷ [])) ∷
     (outcome-8 (row (whole 2 ∷ whole 4 ∷ [])) (row (whole 5 ∷ plus-zero ∷ [])) (half 7) (lent 2 3), takes-and-answer 2 (whole 5 ∷ plus-zero ∷ [])) ∷
     (outcome-8 (row (whole 2 ∷ whole 4 ∷ [])) (row (whole 5 ∷ plus-zero ∷ [])) (whole 3) (lent 2 3), takes-and-answer 1 (whole 5 ∷ plus-zero ∷ [])) ∷
+    -- 8 goes by diagonals too
+    (outcome-8 (grid 2 2 (replicate 4 (whole 1))) (grid 2 2 (whole 5 ∷ plus-zero ∷ plus-zero ∷ plus-zero ∷ [])) (half 3) (lent 4 3), takes-and-answer 4 (replicate 4 (whole 5))) ∷
     -- a huge budget crosses a nodata time
     (outcome-8 (row (whole 1 ∷ nan ∷ [])) (row (whole 5 ∷ plus-zero ∷ [])) (ofBits binary32 0x7f7f_ffff) (lent 2 3), takes-and-answer 2 (whole 5 ∷ whole 5 ∷ [])) ∷
     -- inf and -inf in reach add up to NaN, and no amount is counted twice
@@ -239,6 +244,19 @@ more =
     (outcome-8 (grid 3 0 []) (grid 3 0 []) (whole 3) (lent 0 3), takes-and-answer 0 []) ∷
     -- a cell with nodata time is NaN in 3, and no way leads through it
     (outcome-3 (row (1 ∷ 0 ∷ 0 ∷ [])) (row (whole 2 ∷ nan ∷ whole 4 ∷ [])) infinity (lent 3 1), takes-and-answer 1 (plus-zero ∷ nan ∷ infinity ∷ [])) ∷
+    -- and so is one with nodata target; no search starts from either
+    (outcome-3 (row (1 ∷ 255 ∷ 0 ∷ [])) (row (whole 1 ∷ whole 1 ∷ whole 1 ∷ [])) infinity (lent 3 1), takes-and-answer 1 (plus-zero ∷ nan ∷ infinity ∷ [])) ∷
+    (outcome-3 (row (1 ∷ 0 ∷ [])) (row (nan ∷ whole 2 ∷ [])) infinity (lent 2 1), takes-and-answer 0 (nan ∷ infinity ∷ [])) ∷
+    -- 3 and 5 go by diagonals, and 4 finds the nearer target by one
+    (outcome-3 (grid 2 2 (1 ∷ 0 ∷ 0 ∷ 0 ∷ [])) (grid 2 2 (whole 1 ∷ nan ∷ nan ∷ whole 1 ∷ [])) infinity (lent 4 1), takes-and-answer 2 (plus-zero ∷ nan ∷ nan ∷ diagonal ∷ [])) ∷ (
+      outcome-5 (grid 2 2 (1 ∷ 0 ∷ 0 ∷ 0 ∷ [])) (grid 2 2 (whole 1 ∷ nan ∷ nan ∷ whole 1 ∷ [])) (grid 2 2 (whole 7 ∷ whole 9 ∷ whole 9 ∷ whole 9 ∷ [])) (lent 4 2),
+      takes-and-answer 2 (whole 7 ∷ plus-zero ∷ plus-zero ∷ whole 7 ∷ []),
+    ) ∷ (
+      outcome-4 (grid 2 4 (1 ∷ 0 ∷ 0 ∷ 0 ∷ 0 ∷ 0 ∷ 0 ∷ 1 ∷ [])) (grid 2 4 (map whole (7 ∷ 0 ∷ 0 ∷ 0 ∷ 0 ∷ 0 ∷ 0 ∷ 9 ∷ []))) (lent 8 2),
+      takes-and-answer 8 (map whole (7 ∷ 7 ∷ 9 ∷ 9 ∷ 7 ∷ 7 ∷ 9 ∷ 9 ∷ [])),
+    ) ∷
+    -- a target with nodata value does not start in 5
+    (outcome-5 (row (1 ∷ 0 ∷ [])) (row (whole 1 ∷ whole 1 ∷ [])) (row (nan ∷ whole 9 ∷ [])) (lent 2 2), takes-and-answer 0 (nan ∷ plus-zero ∷ [])) ∷
     -- a target with nodata value passes NaN on in 4
     (outcome-4 (row (1 ∷ 0 ∷ [])) (row (nan ∷ whole 9 ∷ [])) (lent 2 2), takes-and-answer 2 (nan ∷ nan ∷ [])) ∷
     -- in 5 a target with nodata time starts, and a cell with nodata value is NaN
@@ -269,6 +287,15 @@ more =
     (outcome-7 (row (1 ∷ 0 ∷ [])) (row (plus-zero ∷ plus-zero ∷ [])) (row (whole 7 ∷ whole 9 ∷ [])) (whole 3) false (lent 2 4), takes-and-answer 2 (whole 16 ∷ plus-zero ∷ [])) ∷
     -- 255 is an obstacle
     (outcome-2 (row (1 ∷ 0 ∷ [])) (row (0 ∷ 255 ∷ [])) (spacing plus-zero) Include (lent 2 1), takes-and-answer 1 (plus-zero ∷ infinity ∷ [])) ∷
+    -- any other nonzero byte is a target
+    (outcome-1 (row (254 ∷ 0 ∷ 2 ∷ [])) (spacing infinity) (lent 3 1), takes-and-answer 3 (plus-zero ∷ whole 1 ∷ plus-zero ∷ [])) ∷
+    -- the cells beside a diagonal that leads to the left: both blocked in two rows of 2 and of 3, then one of them
+    (outcome-2 (grid 2 2 (0 ∷ 1 ∷ 0 ∷ 0 ∷ [])) (grid 2 2 (1 ∷ 0 ∷ 0 ∷ 1 ∷ [])) (spacing plus-zero) Exclude (lent 4 1), takes-and-answer 1 (infinity ∷ plus-zero ∷ infinity ∷ infinity ∷ [])) ∷ (
+      outcome-2 (grid 2 3 (0 ∷ 0 ∷ 1 ∷ 0 ∷ 0 ∷ 0 ∷ [])) (grid 2 3 (0 ∷ 1 ∷ 0 ∷ 0 ∷ 0 ∷ 1 ∷ [])) (spacing plus-zero) Exclude (lent 6 1),
+      takes-and-answer 1 (infinity ∷ infinity ∷ plus-zero ∷ infinity ∷ infinity ∷ infinity ∷ []),
+    ) ∷
+    (outcome-2 (grid 2 2 (0 ∷ 1 ∷ 0 ∷ 0 ∷ [])) (grid 2 2 (1 ∷ 0 ∷ 0 ∷ 0 ∷ [])) (spacing plus-zero) Exclude (lent 4 1), answer (infinity ∷ plus-zero ∷ diagonal ∷ whole 1 ∷ [])) ∷
+    (outcome-2 (grid 2 2 (0 ∷ 1 ∷ 0 ∷ 0 ∷ [])) (grid 2 2 (0 ∷ 0 ∷ 0 ∷ 1 ∷ [])) (spacing plus-zero) Exclude (lent 4 1), answer (whole 1 ∷ plus-zero ∷ diagonal ∷ infinity ∷ [])) ∷
     -- one side blocked, the other one
     (outcome-2 (grid 2 2 (1 ∷ 0 ∷ 0 ∷ 0 ∷ [])) (grid 2 2 (0 ∷ 0 ∷ 1 ∷ 0 ∷ [])) (spacing plus-zero) Exclude (lent 4 1), answer (plus-zero ∷ whole 1 ∷ infinity ∷ diagonal ∷ [])) ∷
     -- a nodata time in 8 is 0x7e7fffff, no more and no less: that is below the next number, and not below itself
