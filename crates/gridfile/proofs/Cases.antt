@@ -100,6 +100,11 @@ good-files =
     (with-flags 7 0 1 ++ times ++ values, asks 7 Include true (size 1 2) (spacing 0 0) (1 ∷ 0 ∷ []) [] (float 0x3f80_0000 ∷ nan ∷ []) (float 0x4000_0000 ∷ float 0x8000_0000 ∷ [])) ∷
     -- any bits are a number that is used
     (with-numbers 1 0x8000_0000 0xffff_ffff targets, asks 1 Include false (size 1 2) (spacing 0x8000_0000 0x7fc0_0000) (1 ∷ 0 ∷ []) [] [] []) ∷
+    -- the limit of each search that has one
+    (with-numbers 3 0 0x4080_0000 (targets ++ times), asks 3 Include false (size 1 2) (spacing 0 0x4080_0000) (1 ∷ 0 ∷ []) [] (float 0x3f80_0000 ∷ nan ∷ []) []) ∷
+    (with-numbers 6 0 0x4080_0000 (targets ++ times ++ values), asks 6 Include false (size 1 2) (spacing 0 0x4080_0000) (1 ∷ 0 ∷ []) [] (float 0x3f80_0000 ∷ nan ∷ []) (float 0x4000_0000 ∷ float 0x8000_0000 ∷ [])) ∷
+    (with-numbers 7 0 0x4080_0000 (targets ++ times ++ values), asks 7 Include false (size 1 2) (spacing 0 0x4080_0000) (1 ∷ 0 ∷ []) [] (float 0x3f80_0000 ∷ nan ∷ []) (float 0x4000_0000 ∷ float 0x8000_0000 ∷ [])) ∷
+    (with-numbers 8 0 0x4080_0000 (times ++ values), asks 8 Include false (size 1 2) (spacing 0 0x4080_0000) [] [] (float 0x3f80_0000 ∷ nan ∷ []) (float 0x4000_0000 ∷ float 0x8000_0000 ∷ [])) ∷
     -- lengths other than n are for the library to refuse, and so are sides that it does not have
     (plain 1 (field-bytes 0x04 []), asks-plain 1 [] [] [] []) ∷
     (plain 1 (field-bytes 0x04 (1 ∷ 2 ∷ 3 ∷ [])), asks-plain 1 (1 ∷ 2 ∷ 3 ∷ []) [] [] []) ∷
@@ -107,6 +112,7 @@ good-files =
     (with-size 0 32768, asks 1 Include false (size 0 32768) (spacing 0 0) (1 ∷ 0 ∷ []) [] [] []) ∷
     (with-size 65535 0, asks 1 Include false (size 65535 0) (spacing 0 0) (1 ∷ 0 ∷ []) [] [] []) ∷
     (with-size 1 1024, asks 1 Include false (size 1 1024) (spacing 0 0) (1 ∷ 0 ∷ []) [] [] []) ∷
+    (with-size 32 32, asks 1 Include false (size 32 32) (spacing 0 0) (1 ∷ 0 ∷ []) [] [] []) ∷
     (plain 1 (field-bytes 0x04 (replicate 4096 7)), asks-plain 1 (replicate 4096 7) [] [] []) ∷ []
 
 pub good-files-read : map (λ (e : Entry). asked (e .0)) good-files ≡ map (λ (e : Entry). e .1) good-files
@@ -145,17 +151,39 @@ bad-files =
     plain 8 (targets ++ times ++ values) ∷
     plain 1 (targets ++ field-bytes 0x08 []) ∷
     (field-bytes 0x00 [] ++ plain 1 targets) ∷
-    -- a search or flag outside its range
+    -- another tag in the place of 01, 02 or 03
+    (field-bytes 0x00 (1 ∷ 0 ∷ 0 ∷ []) ++ sized 1 2 ++ numbers 0 0 ++ targets) ∷
+    (field-bytes 0x01 (1 ∷ 0 ∷ 0 ∷ []) ++ field-bytes 0x03 (1 ∷ 0 ∷ 2 ∷ 0 ∷ []) ++ field-bytes 0x04 (zeros 8) ++ targets) ∷
+    -- a search or flag outside its range, a search also where no grid follows
+    plain 0 [] ∷
+    plain 9 [] ∷
     with-flags 0 0 0 ∷
     with-flags 9 0 0 ∷
     (with-flags 2 2 0 ++ obstacles) ∷
     (with-flags 7 0 2 ++ times ++ values) ∷
     -- unused flags are zero
     with-flags 1 1 0 ∷
+    (with-flags 3 1 0 ++ times) ∷
+    (with-flags 4 1 0 ++ values) ∷
+    (with-flags 5 1 0 ++ times ++ values) ∷
+    (with-flags 6 1 0 ++ times ++ values) ∷
+    (with-flags 7 1 0 ++ times ++ values) ∷
+    (field-bytes 0x01 (8 ∷ 1 ∷ 0 ∷ []) ++ sized 1 2 ++ numbers 0 0 ++ times ++ values) ∷
     with-flags 1 0 1 ∷
+    (with-flags 2 0 1 ++ obstacles) ∷
+    (with-flags 3 0 1 ++ times) ∷
+    (with-flags 4 0 1 ++ values) ∷
+    (with-flags 5 0 1 ++ times ++ values) ∷
+    (with-flags 6 0 1 ++ times ++ values) ∷
+    (field-bytes 0x01 (8 ∷ 0 ∷ 1 ∷ []) ++ sized 1 2 ++ numbers 0 0 ++ times ++ values) ∷
     -- unused numbers are zero bytes, and minus zero is not
     with-numbers 3 0x3f80_0000 0 (targets ++ times) ∷
     with-numbers 3 0x8000_0000 0 (targets ++ times) ∷
+    with-numbers 4 1 0 (targets ++ values) ∷
+    with-numbers 5 1 0 (targets ++ times ++ values) ∷
+    with-numbers 6 1 0 (targets ++ times ++ values) ∷
+    with-numbers 7 1 0 (targets ++ times ++ values) ∷
+    with-numbers 8 1 0 (times ++ values) ∷
     with-numbers 2 0x3f80_0000 0x8000_0000 (targets ++ obstacles) ∷
     with-numbers 4 0 0x3f80_0000 (targets ++ values) ∷
     with-numbers 5 0 1 (targets ++ times ++ values) ∷
@@ -173,9 +201,12 @@ bad-files =
     plain 4 (targets ++ field-bytes 0x07 (zeros 1)) ∷
     -- a grid field over 4,096 bytes
     plain 1 (field-bytes 0x04 (zeros 4097)) ∷
+    plain 2 (targets ++ field-bytes 0x05 (zeros 4097)) ∷
     plain 3 (targets ++ field-bytes 0x06 (zeros 4100)) ∷
+    plain 4 (targets ++ field-bytes 0x07 (zeros 4100)) ∷
     -- n above 1,024
     with-size 1025 1 ∷
+    with-size 32 33 ∷
     with-size 1 32768 ∷
     with-size 65535 65535 ∷
     -- anything after the last field

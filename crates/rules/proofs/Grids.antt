@@ -15,7 +15,7 @@ use Rattle.rules.specs.Sizes.{Size, Grid, Spacing, in-bounds, Lent, Refu
 use Rattle.rules.specs.Computing.{rules-computing}
 use Rattle.rules.specs.Distances.{outcome-1, outcome-2, outcome-3}
 use Rattle.rules.specs.Values.{outcome-4, outcome-5, outcome-6}
-use Rattle.rules.specs.Sums.{outcome-7, outcome-8}
+use Rattle.rules.specs.Sums.{Run, total-takes, outcome-7, outcome-8}
 
 -- What the document says of a grid: its answer, its takes too, or a refusal.
 pub data Said : Type 0 where
@@ -185,6 +185,32 @@ more =
     (outcome-8 (row (minus-one ∷ [])) (grid 1 1 []) nan (lent 1 3), refusal (number 3)) ∷
     (outcome-8 (row (minus-one ∷ [])) (row (nan ∷ [])) minus-one (lent 1 3), refusal (number 5)) ∷
     (outcome-8 (row (nan ∷ minus-one ∷ [])) (row (nan ∷ nan ∷ [])) infinity (lent 2 3), refusal (number-at 6 1)) ∷
+    -- a size that differs alone
+    (outcome-5 (row (1 ∷ [])) (row []) (row (nan ∷ [])) (lent 1 2), refusal (number 2)) ∷
+    (outcome-6 (row (1 ∷ [])) (row (minus-one ∷ [])) (row []) nan (lent 1 2), refusal (number 2)) ∷
+    (outcome-7 (row (1 ∷ [])) (row []) (row (nan ∷ [])) nan false (lent 1 4), refusal (number 2)) ∷
+    (outcome-7 (row (1 ∷ [])) (row (minus-one ∷ [])) (row []) nan false (lent 1 4), refusal (number 2)) ∷
+    -- rows that differ alone, either way
+    (outcome-2 (grid 1 0 []) (grid 2 0 []) bad-spacing Include (lent 0 1), refusal (number 2)) ∷
+    (outcome-2 (grid 2 0 []) (grid 1 0 []) bad-spacing Include (lent 0 1), refusal (number 2)) ∷
+    -- a grid that alone has not its length, and the last of the lent slices
+    (outcome-1 (grid 1 1 []) bad-spacing (lent 1 1), refusal (number 3)) ∷
+    (outcome-2 (grid 1 1 []) (row (0 ∷ [])) bad-spacing Include (lent 1 1), refusal (number 3)) ∷
+    (outcome-3 (grid 1 1 []) (row (minus-one ∷ [])) nan (lent 1 1), refusal (number 3)) ∷
+    (outcome-3 (row (1 ∷ [])) (grid 1 1 []) nan (lent 1 1), refusal (number 3)) ∷
+    (outcome-4 (grid 1 1 []) (row (nan ∷ [])) (lent 1 2), refusal (number 3)) ∷
+    (outcome-4 (row (1 ∷ [])) (grid 1 1 []) (lent 1 2), refusal (number 3)) ∷
+    (outcome-5 (grid 1 1 []) (row (minus-one ∷ [])) (row (nan ∷ [])) (lent 1 2), refusal (number 3)) ∷
+    (outcome-5 (row (1 ∷ [])) (grid 1 1 (minus-one ∷ minus-one ∷ [])) (row (nan ∷ [])) (lent 1 2), refusal (number 3)) ∷
+    (outcome-6 (grid 1 1 []) (row (minus-one ∷ [])) (row (nan ∷ [])) nan (lent 1 2), refusal (number 3)) ∷
+    (outcome-6 (row (1 ∷ [])) (grid 1 1 []) (row (nan ∷ [])) (whole 1) (lent 1 2), refusal (number 3)) ∷
+    (outcome-6 (row (1 ∷ [])) (row (whole 1 ∷ [])) (grid 1 1 []) (whole 1) (lent 1 2), refusal (number 3)) ∷
+    (outcome-7 (grid 1 1 []) (row (whole 1 ∷ [])) (row (whole 1 ∷ [])) (whole 1) false (lent 1 4), refusal (number 3)) ∷
+    (outcome-7 (row (1 ∷ [])) (grid 1 1 []) (row (whole 1 ∷ [])) (whole 1) false (lent 1 4), refusal (number 3)) ∷
+    (outcome-7 (row (1 ∷ [])) (row (whole 1 ∷ [])) (grid 1 1 []) (whole 1) false (lent 1 4), refusal (number 3)) ∷
+    (outcome-8 (grid 1 1 []) (row (whole 1 ∷ [])) (whole 1) (lent 1 3), refusal (number 3)) ∷
+    (outcome-8 (row (whole 1 ∷ [])) (row (whole 1 ∷ [])) (whole 1) (record { lengths = 1 ∷ 1 ∷ 1 ∷ 2 ∷ []; queue-length = 2 }), refusal (number 3)) ∷
+    (outcome-8 (row (whole 1 ∷ [])) (row (whole 1 ∷ [])) (whole 1) (record { lengths = 1 ∷ 1 ∷ 1 ∷ 1 ∷ []; queue-length = 3 }), refusal (number 3)) ∷
     -- the eight neighbours in trying order: any other order loses the 1 in the middle
     (
       outcome-7 (grid 3 3 (0 ∷ 0 ∷ 0 ∷ 0 ∷ 1 ∷ 0 ∷ 0 ∷ 0 ∷ 0 ∷ [])) (grid 3 3 (replicate 9 (whole 1)))
@@ -200,6 +226,8 @@ more =
     (outcome-8 (row (whole 2 ∷ whole 4 ∷ [])) (row (whole 5 ∷ plus-zero ∷ [])) (whole 4) (lent 2 3), answer (whole 5 ∷ whole 5 ∷ [])) ∷
     (outcome-8 (row (whole 2 ∷ whole 4 ∷ [])) (row (whole 5 ∷ plus-zero ∷ [])) (half 7) (lent 2 3), takes-and-answer 2 (whole 5 ∷ plus-zero ∷ [])) ∷
     (outcome-8 (row (whole 2 ∷ whole 4 ∷ [])) (row (whole 5 ∷ plus-zero ∷ [])) (whole 3) (lent 2 3), takes-and-answer 1 (whole 5 ∷ plus-zero ∷ [])) ∷
+    -- 8 goes by diagonals too
+    (outcome-8 (grid 2 2 (replicate 4 (whole 1))) (grid 2 2 (whole 5 ∷ plus-zero ∷ plus-zero ∷ plus-zero ∷ [])) (half 3) (lent 4 3), takes-and-answer 4 (replicate 4 (whole 5))) ∷
     -- a huge budget crosses a nodata time
     (outcome-8 (row (whole 1 ∷ nan ∷ [])) (row (whole 5 ∷ plus-zero ∷ [])) (ofBits binary32 0x7f7f_ffff) (lent 2 3), takes-and-answer 2 (whole 5 ∷ whole 5 ∷ [])) ∷
     -- inf and -inf in reach add up to NaN, and no amount is counted twice
@@ -216,17 +244,107 @@ more =
     (outcome-8 (grid 3 0 []) (grid 3 0 []) (whole 3) (lent 0 3), takes-and-answer 0 []) ∷
     -- a cell with nodata time is NaN in 3, and no way leads through it
     (outcome-3 (row (1 ∷ 0 ∷ 0 ∷ [])) (row (whole 2 ∷ nan ∷ whole 4 ∷ [])) infinity (lent 3 1), takes-and-answer 1 (plus-zero ∷ nan ∷ infinity ∷ [])) ∷
+    -- and so is one with nodata target; no search starts from either
+    (outcome-3 (row (1 ∷ 255 ∷ 0 ∷ [])) (row (whole 1 ∷ whole 1 ∷ whole 1 ∷ [])) infinity (lent 3 1), takes-and-answer 1 (plus-zero ∷ nan ∷ infinity ∷ [])) ∷
+    (outcome-3 (row (1 ∷ 0 ∷ [])) (row (nan ∷ whole 2 ∷ [])) infinity (lent 2 1), takes-and-answer 0 (nan ∷ infinity ∷ [])) ∷
+    -- 3 and 5 go by diagonals, and 4 finds the nearer target by one
+    (outcome-3 (grid 2 2 (1 ∷ 0 ∷ 0 ∷ 0 ∷ [])) (grid 2 2 (whole 1 ∷ nan ∷ nan ∷ whole 1 ∷ [])) infinity (lent 4 1), takes-and-answer 2 (plus-zero ∷ nan ∷ nan ∷ diagonal ∷ [])) ∷ (
+      outcome-5 (grid 2 2 (1 ∷ 0 ∷ 0 ∷ 0 ∷ [])) (grid 2 2 (whole 1 ∷ nan ∷ nan ∷ whole 1 ∷ [])) (grid 2 2 (whole 7 ∷ whole 9 ∷ whole 9 ∷ whole 9 ∷ [])) (lent 4 2),
+      takes-and-answer 2 (whole 7 ∷ plus-zero ∷ plus-zero ∷ whole 7 ∷ []),
+    ) ∷ (
+      outcome-4 (grid 2 4 (1 ∷ 0 ∷ 0 ∷ 0 ∷ 0 ∷ 0 ∷ 0 ∷ 1 ∷ [])) (grid 2 4 (map whole (7 ∷ 0 ∷ 0 ∷ 0 ∷ 0 ∷ 0 ∷ 0 ∷ 9 ∷ []))) (lent 8 2),
+      takes-and-answer 8 (map whole (7 ∷ 7 ∷ 9 ∷ 9 ∷ 7 ∷ 7 ∷ 9 ∷ 9 ∷ [])),
+    ) ∷
+    -- a target with nodata value does not start in 5
+    (outcome-5 (row (1 ∷ 0 ∷ [])) (row (whole 1 ∷ whole 1 ∷ [])) (row (nan ∷ whole 9 ∷ [])) (lent 2 2), takes-and-answer 0 (nan ∷ plus-zero ∷ [])) ∷
     -- a target with nodata value passes NaN on in 4
     (outcome-4 (row (1 ∷ 0 ∷ [])) (row (nan ∷ whole 9 ∷ [])) (lent 2 2), takes-and-answer 2 (nan ∷ nan ∷ [])) ∷
     -- in 5 a target with nodata time starts, and a cell with nodata value is NaN
     (outcome-5 (row (1 ∷ 0 ∷ 0 ∷ [])) (row (nan ∷ whole 4 ∷ whole 1 ∷ [])) (row (whole 7 ∷ whole 9 ∷ nan ∷ [])) (lent 3 2), takes-and-answer 2 (whole 7 ∷ whole 7 ∷ nan ∷ [])) ∷
     -- a mask cell with nodata time is listed alone, nothing taken, and the cell beside it is adjacent
     (outcome-7 (row (1 ∷ 0 ∷ [])) (row (nan ∷ whole 4 ∷ [])) (row (whole 7 ∷ whole 9 ∷ [])) (whole 3) false (lent 2 4), takes-and-answer 0 (whole 7 ∷ plus-zero ∷ [])) ∷
-    (outcome-7 (row (1 ∷ 0 ∷ [])) (row (nan ∷ whole 4 ∷ [])) (row (whole 7 ∷ whole 9 ∷ [])) (whole 3) true (lent 2 4), takes-and-answer 0 (whole 16 ∷ plus-zero ∷ [])) ∷ []
+    (outcome-7 (row (1 ∷ 0 ∷ [])) (row (nan ∷ whole 4 ∷ [])) (row (whole 7 ∷ whole 9 ∷ [])) (whole 3) true (lent 2 4), takes-and-answer 0 (whole 16 ∷ plus-zero ∷ [])) ∷
+    -- adjacent cells are added after the list, above before below, left before right, below before left, and none by a diagonal: 1 + large is large
+    (
+      outcome-7 (grid 3 1 (0 ∷ 1 ∷ 0 ∷ [])) (grid 3 1 (nan ∷ whole 1 ∷ nan ∷ [])) (grid 3 1 (large ∷ whole 1 ∷ neg large ∷ [])) (whole 9) true (lent 3 4),
+      takes-and-answer 1 (plus-zero ∷ plus-zero ∷ plus-zero ∷ []),
+    ) ∷ (
+      outcome-7 (row (0 ∷ 1 ∷ 0 ∷ [])) (row (nan ∷ whole 1 ∷ nan ∷ [])) (row (large ∷ whole 1 ∷ neg large ∷ [])) (whole 9) true (lent 3 4),
+      takes-and-answer 1 (plus-zero ∷ plus-zero ∷ plus-zero ∷ []),
+    ) ∷ (
+      outcome-7 (grid 3 3 (0 ∷ 0 ∷ 0 ∷ 0 ∷ 1 ∷ 0 ∷ 0 ∷ 0 ∷ 0 ∷ [])) (grid 3 3 (nan ∷ nan ∷ nan ∷ nan ∷ whole 1 ∷ nan ∷ nan ∷ nan ∷ nan ∷ []))
+          (grid 3 3 (whole 2 ∷ nan ∷ whole 4 ∷ neg large ∷ whole 1 ∷ nan ∷ whole 8 ∷ large ∷ whole 16 ∷ [])) (whole 9) true (lent 9 4),
+      takes-and-answer 1 (replicate 9 plus-zero),
+    ) ∷
+    -- the cells beside the first listed cell come first
+    (
+      outcome-7 (row (0 ∷ 0 ∷ 1 ∷ 0 ∷ [])) (row (nan ∷ whole 1 ∷ whole 1 ∷ nan ∷ [])) (row (neg large ∷ plus-zero ∷ whole 1 ∷ large ∷ [])) (whole 9) true (lent 4 4),
+      takes-and-answer 2 (replicate 4 plus-zero),
+    ) ∷
+    -- where no time is needed a distance stays the same, and no cell is taken again
+    (outcome-3 (row (1 ∷ 0 ∷ [])) (row (plus-zero ∷ plus-zero ∷ [])) infinity (lent 2 1), takes-and-answer 2 (plus-zero ∷ plus-zero ∷ [])) ∷
+    (outcome-5 (row (1 ∷ 0 ∷ [])) (row (plus-zero ∷ plus-zero ∷ [])) (row (whole 7 ∷ whole 9 ∷ [])) (lent 2 2), takes-and-answer 2 (whole 7 ∷ whole 7 ∷ [])) ∷
+    (outcome-7 (row (1 ∷ 0 ∷ [])) (row (plus-zero ∷ plus-zero ∷ [])) (row (whole 7 ∷ whole 9 ∷ [])) (whole 3) false (lent 2 4), takes-and-answer 2 (whole 16 ∷ plus-zero ∷ [])) ∷
+    -- 255 is an obstacle
+    (outcome-2 (row (1 ∷ 0 ∷ [])) (row (0 ∷ 255 ∷ [])) (spacing plus-zero) Include (lent 2 1), takes-and-answer 1 (plus-zero ∷ infinity ∷ [])) ∷
+    -- any other nonzero byte is a target
+    (outcome-1 (row (254 ∷ 0 ∷ 2 ∷ [])) (spacing infinity) (lent 3 1), takes-and-answer 3 (plus-zero ∷ whole 1 ∷ plus-zero ∷ [])) ∷
+    -- the cells beside a diagonal that leads to the left: both blocked in two rows of 2 and of 3, then one of them
+    (outcome-2 (grid 2 2 (0 ∷ 1 ∷ 0 ∷ 0 ∷ [])) (grid 2 2 (1 ∷ 0 ∷ 0 ∷ 1 ∷ [])) (spacing plus-zero) Exclude (lent 4 1), takes-and-answer 1 (infinity ∷ plus-zero ∷ infinity ∷ infinity ∷ [])) ∷ (
+      outcome-2 (grid 2 3 (0 ∷ 0 ∷ 1 ∷ 0 ∷ 0 ∷ 0 ∷ [])) (grid 2 3 (0 ∷ 1 ∷ 0 ∷ 0 ∷ 0 ∷ 1 ∷ [])) (spacing plus-zero) Exclude (lent 6 1),
+      takes-and-answer 1 (infinity ∷ infinity ∷ plus-zero ∷ infinity ∷ infinity ∷ infinity ∷ []),
+    ) ∷
+    (outcome-2 (grid 2 2 (0 ∷ 1 ∷ 0 ∷ 0 ∷ [])) (grid 2 2 (1 ∷ 0 ∷ 0 ∷ 0 ∷ [])) (spacing plus-zero) Exclude (lent 4 1), answer (infinity ∷ plus-zero ∷ diagonal ∷ whole 1 ∷ [])) ∷
+    (outcome-2 (grid 2 2 (0 ∷ 1 ∷ 0 ∷ 0 ∷ [])) (grid 2 2 (0 ∷ 0 ∷ 0 ∷ 1 ∷ [])) (spacing plus-zero) Exclude (lent 4 1), answer (whole 1 ∷ plus-zero ∷ diagonal ∷ infinity ∷ [])) ∷
+    -- one side blocked, the other one
+    (outcome-2 (grid 2 2 (1 ∷ 0 ∷ 0 ∷ 0 ∷ [])) (grid 2 2 (0 ∷ 0 ∷ 1 ∷ 0 ∷ [])) (spacing plus-zero) Exclude (lent 4 1), answer (plus-zero ∷ whole 1 ∷ infinity ∷ diagonal ∷ [])) ∷
+    -- a nodata time in 8 is 0x7e7fffff, no more and no less: that is below the next number, and not below itself
+    (outcome-8 (row (whole 1 ∷ nan ∷ [])) (row (whole 5 ∷ plus-zero ∷ [])) (ofBits binary32 0x7e80_0000) (lent 2 3), takes-and-answer 2 (whole 5 ∷ whole 5 ∷ [])) ∷
+    (outcome-8 (row (whole 1 ∷ nan ∷ [])) (row (whole 5 ∷ plus-zero ∷ [])) (ofBits binary32 0x7e7f_ffff) (lent 2 3), takes-and-answer 1 (whole 5 ∷ plus-zero ∷ [])) ∷
+    -- values are added from +0.0, and an amount of -0.0 is 0
+    (outcome-7 (row (1 ∷ [])) (row (whole 1 ∷ [])) (row (neg plus-zero ∷ [])) (whole 9) false (lent 1 4), takes-and-answer 1 (plus-zero ∷ [])) ∷
+    (outcome-8 (row (whole 1 ∷ [])) (row (neg plus-zero ∷ [])) (whole 9) (lent 1 3), takes-and-answer 0 (plus-zero ∷ [])) ∷
+    -- an infinity is data: as a time of 3, and as a value of 4, 5, 6 and 7
+    (outcome-3 (row (1 ∷ 0 ∷ [])) (row (whole 1 ∷ infinity ∷ [])) infinity (lent 2 1), takes-and-answer 1 (plus-zero ∷ infinity ∷ [])) ∷
+    (outcome-4 (row (1 ∷ 0 ∷ [])) (row (infinity ∷ nan ∷ [])) (lent 2 2), takes-and-answer 2 (infinity ∷ infinity ∷ [])) ∷
+    (outcome-5 (row (1 ∷ 0 ∷ [])) (row (whole 1 ∷ whole 1 ∷ [])) (row (infinity ∷ whole 9 ∷ [])) (lent 2 2), takes-and-answer 2 (infinity ∷ infinity ∷ [])) ∷
+    (outcome-6 (row (1 ∷ 0 ∷ [])) (row (whole 1 ∷ whole 1 ∷ [])) (row (whole 7 ∷ neg infinity ∷ [])) (whole 9) (lent 2 2), takes-and-answer 2 (whole 7 ∷ whole 7 ∷ [])) ∷
+    (outcome-7 (row (1 ∷ 0 ∷ [])) (row (whole 1 ∷ whole 1 ∷ [])) (row (whole 7 ∷ neg infinity ∷ [])) (whole 9) false (lent 2 4), takes-and-answer 2 (neg infinity ∷ plus-zero ∷ [])) ∷
+    -- a cell size that is negative or NaN
+    (outcome-1 (row (1 ∷ [])) (record { «cell_size» = minus-one; limit = infinity }) (lent 1 1), refusal (number 4)) ∷
+    (outcome-1 (row (1 ∷ [])) (record { «cell_size» = nan; limit = infinity }) (lent 1 1), refusal (number 4)) ∷
+    (outcome-2 (row (1 ∷ [])) (row (0 ∷ [])) (record { «cell_size» = neg infinity; limit = plus-zero }) Include (lent 1 1), refusal (number 4)) ∷
+    -- the last cell is taken twice, at the root of 2 and at 1, and gains once; with the budget 1.25 only the second time
+    (
+      outcome-8 (grid 2 3 (plus-zero ∷ plus-zero ∷ plus-zero ∷ plus-zero ∷ whole 1 ∷ whole 1 ∷ [])) (grid 2 3 (plus-zero ∷ plus-zero ∷ plus-zero ∷ whole 5 ∷ plus-zero ∷ plus-zero ∷ [])) (whole 9) (lent 6 3),
+      takes-and-answer 7 (replicate 6 (whole 5)),
+    ) ∷ (
+      outcome-8 (grid 2 3 (plus-zero ∷ plus-zero ∷ plus-zero ∷ plus-zero ∷ whole 1 ∷ whole 1 ∷ [])) (grid 2 3 (plus-zero ∷ plus-zero ∷ plus-zero ∷ whole 5 ∷ plus-zero ∷ plus-zero ∷ [])) (ofBits binary32 0x3fa0_0000) (lent 6 3),
+      takes-and-answer 7 (replicate 6 (whole 5)),
+    ) ∷
+    -- more than twice as many takes as cells: the cell above right gains at the last of them
+    (
+      outcome-8 (grid 3 5 (map (λ k. div binary32 (whole k) (whole 64)) (0 ∷ 3 ∷ 0 ∷ 1 ∷ 2 ∷ 0 ∷ 16 ∷ 12 ∷ 0 ∷ 0 ∷ 8 ∷ 24 ∷ 32 ∷ 1 ∷ 16 ∷ [])))
+          (grid 3 5 (map whole (0 ∷ 0 ∷ 0 ∷ 0 ∷ 0 ∷ 0 ∷ 0 ∷ 0 ∷ 0 ∷ 0 ∷ 0 ∷ 5 ∷ 0 ∷ 0 ∷ 0 ∷ []))) (ofBits binary32 0x3dad_0000) (lent 15 3),
+      takes-and-answer 33 (map whole (5 ∷ 5 ∷ 5 ∷ 5 ∷ 5 ∷ 5 ∷ 0 ∷ 0 ∷ 5 ∷ 5 ∷ 0 ∷ 5 ∷ 0 ∷ 5 ∷ 0 ∷ [])),
+    ) ∷ []
 
 pub more-grids : all-heard more ≡ all-said more
 unfolding more rules-computing
 more-grids = refl
+
+-- ---- what no small grid reaches
+
+-- A run of which only the takes are looked at.
+abbrev taking : ℕ → Run
+taking takes = record { from = 0; takes = takes; ends = record { labels = []; waiting = []; entered = [] } }
+
+-- A total above 18,446,744,073,709,551,615 is given as that number.
+pub totals-of-takes :
+    map total-takes ((taking 3 ∷ taking 18446744073709551611 ∷ []) ∷ (taking 3 ∷ taking 18446744073709551612 ∷ []) ∷ (taking 18446744073709551612 ∷ taking 4 ∷ []) ∷ [])
+    ≡ 18446744073709551614 ∷ 18446744073709551615 ∷ 18446744073709551615 ∷ []
+unfolding total-takes
+totals-of-takes = refl
 
 -- ---- the bounds
 

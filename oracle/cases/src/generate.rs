@@ -90,6 +90,26 @@ fn keen(random: &mut Random, case: &mut Case, rows: usize, cols: usize) {
     }
 }
 
+/// A case of search 7 with adjacent cells, to 4 by 4: most times are nodata, so that there is much beside what is reached,
+/// the budget is above every distance, and the values beside are so large that the ones before them are lost or not, so that
+/// another order of adding them tells.
+pub fn beside(seed: u64, index: u64) -> Case {
+    let random = &mut Random::new(seed ^ 7 << 40, index);
+    let (rows, cols) = (1 + index as usize % 4, 1 + index as usize / 4 % 4);
+    let n = rows * cols;
+    let mut case = Case::new(Search::SumWithinTravelDistance);
+    case.targets = Some(grid(rows, cols, (0..n).map(|_| random.chance(30) as u8).collect()));
+    let time = |random: &mut Random| if random.chance(60) { values::any_nan(random) } else { random.below(10) as f32 };
+    let times: Vec<f32> = (0..n).map(|_| time(random)).collect();
+    let beside = [16_777_216.0, -16_777_216.0];
+    let values = times.iter().map(|time| if time.is_nan() { random.pick(&beside) } else { 1.0 }).collect();
+    case.times = Some(grid(rows, cols, times));
+    case.values = Some(grid(rows, cols, values));
+    case.adjacent = true;
+    case.limit = 1000.0;
+    case
+}
+
 fn size(random: &mut Random, sizes: Sizes, index: usize) -> (usize, usize) {
     let small = index / 4 * 3 + index % 4;
     let to_6_by_6 = (1 + small % 6, 1 + small / 6 % 6);

@@ -2,30 +2,48 @@
 use std::fs;
 use std::path::Path;
 
-use case::{Search, draw, plain};
+use case::{Case, Search, draw, plain};
 use oracle::{Build, Reading, answer};
 
-use crate::generate::{Sizes, generate};
+use crate::generate::{Sizes, beside, generate};
 
 const SEED: u64 = 1;
 const CASES: u64 = 400;
+
+/// Those of search 7 in which adjacent cells count. They come first, since `theorems` takes its cases from the front.
+const BESIDE: usize = 12;
 
 /// Writes `search-N.txt` for each search.
 pub fn store(folder: &Path) -> Result<(), String> {
     for search in Search::ALL {
         let number = search.number();
+        let first = first_cases(search);
+        let count = first.len() as u64 + CASES;
         let mut text = format!(
-            "# The oracle's answers for search {number}, {}: {CASES} cases of seed {SEED}.\n# Made by `cases store`.\n",
+            "# The oracle's answers for search {number}, {}: {count} cases of seed {SEED}.\n# Made by `cases store`.\n",
             search.name()
         );
-        for index in 0..CASES {
-            let case = generate(search, Sizes::Stored, SEED, index);
+        for case in first.into_iter().chain((0..CASES).map(|index| generate(search, Sizes::Stored, SEED, index))) {
             text += &plain::write(&case, &answer(&case, Build::Unchanged, Reading::Document));
         }
         let path = folder.join(format!("search-{number}.txt"));
         fs::write(&path, text).map_err(|error| format!("{}: {error}", path.display()))?;
     }
     Ok(())
+}
+
+fn first_cases(search: Search) -> Vec<Case> {
+    if search != Search::SumWithinTravelDistance {
+        return Vec::new();
+    }
+    (0..).map(|index| beside(SEED, index)).filter(adjacent_cells_count).take(BESIDE).collect()
+}
+
+/// Whether the answer is another one without adjacent cells.
+fn adjacent_cells_count(case: &Case) -> bool {
+    let without = Case { adjacent: false, ..case.clone() };
+    let answers = [case, &without].map(|case| answer(case, Build::Unchanged, Reading::Document));
+    answers[0] != answers[1]
 }
 
 /// Asks the oracle's two builds again for each stored case of a folder's .txt files; how many there were.
