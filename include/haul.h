@@ -21,7 +21,11 @@
  * work buffer is all zero; after HAUL_OVER_BUDGET the answer is NaN in every cell. Any other refusal leaves the answer
  * and the buffers as they were. `takes` is written by an accepted call only, `index` only by a refusal that has one.
  *
- * The searches keep no state: calls with slices of their own may run at the same time.
+ * The searches keep no state: calls with slices of their own may run at the same time. Nothing is allocated. A search
+ * needs less than one kilobyte of stack, `haul_answer` more.
+ *
+ * What is proved. The promises hold for every input, but for two things that only runs have shown: that a NaN in an
+ * answer has the bits 0x7FC00000, and the stack above.
  */
 #ifndef HAUL_H
 #define HAUL_H
@@ -209,7 +213,8 @@ uint32_t haul_sum_targets_within_travel_distance(
 /*
  * The program `haul` as a call: a grid file goes in, its answer file comes out. A file that does not keep the form is
  * answered by refusal 8. Returns how many bytes stand at the front of the output; what follows them there is as it was.
- * Where the output is shorter than HAUL_ANSWER_MAX nothing is written, and 0 is returned.
+ * Where the output is shorter than HAUL_ANSWER_MAX nothing is written, and 0 is returned. It needs about 40 kilobytes of
+ * stack, for the grids that the file holds.
  *
  * The program can't give an exit status: it ends with 0 also where its answer could not be written. The answer itself
  * tells that it is whole. Its fields, each a tag of one byte, a length of two (the lower first) and the content, end
@@ -226,17 +231,13 @@ uint32_t haul_answer(
 /*
  * Whether floats are what the proofs suppose: rounded to nearest even, and small ones not taken for 0. A program that was
  * linked with -Ofast or -ffast-math, or that set the processor so, gets other answers from the same archive: a time of
- * -1e-40 is then no time below 0. Ask once, in each thread that changes how floats are computed, with these two numbers:
- * they are given so that no compiler works out the answer before the call runs.
- *
- *     if (!haul_keeps_binary32(HAUL_ONE, HAUL_LEAST)) { ... }
+ * -1e-40 is then no time below 0. Ask once, in each thread that changes how floats are computed, with 1.0f and 1e-45f, which
+ * is the least float above 0: they are given so that no compiler works out the answer before the call runs. Returns 1
+ * where floats are kept, else 0.
  */
-#define HAUL_ONE 1.0f
-#define HAUL_LEAST 1.40129846e-45f /* the least float above 0 */
-
 uint32_t haul_keeps_binary32(
-    float one,    /* HAUL_ONE */
-    float least); /* HAUL_LEAST; returns 1 where floats are kept, else 0 */
+    float one,    /* 1.0f */
+    float least); /* 1e-45f */
 
 #ifdef __cplusplus
 }

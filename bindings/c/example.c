@@ -63,7 +63,7 @@ static void print_sheet(const char *title, float cell_size, uint32_t diagonals) 
 }
 
 int main(void) {
-    if (!haul_keeps_binary32(HAUL_ONE, HAUL_LEAST)) {
+    if (!haul_keeps_binary32(1.0f, 1e-45f)) {
         fprintf(stderr, "floats are not computed as the searches need it: was this linked with -Ofast?\n");
         return 1;
     }

@@ -4,7 +4,7 @@ mod common;
 mod picture;
 use std::path::Path;
 
-use common::{folder, grid, noted};
+use common::{folder, grid, grid_of_cell_size, noted};
 use picture::{BLACK, Colour, GREY, PALE, Picture, WHITE};
 use sheet::picture::{classes, ramp};
 
@@ -207,6 +207,18 @@ fn nodata_is_an_obstacle() {
     assert_eq!([row[1], row[2], row[3]], [BLACK, WHITE, BLACK]);
     assert_eq!([picture.sample("obstacle"), picture.sample("not reached")], [BLACK, WHITE]);
     assert!(!picture.says("nodata"));
+}
+
+/// Cells that hold the limit are drawn as not reached, also where cells are not a metre long.
+#[test]
+fn the_limit_is_drawn_as_not_reached() {
+    for cell_size in ["10", "0.25"] {
+        let folder = folder(&format!("pictures-limit-{cell_size}"));
+        grid_of_cell_size(&folder, "landings.asc", cell_size, "1 0 0 0");
+        let picture = make(&folder, "distance --targets landings.asc --limit 2");
+        let row: Vec<Colour> = (1..4).map(|column| picture.cell(0, column, EDGE)).collect();
+        assert_eq!(row, [ramp::colour(1.0), WHITE, WHITE], "{cell_size}");
+    }
 }
 
 /// Ground with nodata is hatched, and is in the legend.

@@ -1,6 +1,6 @@
 //! Document 01's small grids through the tool, so that each search is called as its name says.
 mod common;
-use common::{cells, failure, folder, grid, noted};
+use common::{cells, failure, folder, grid, grid_of_cell_size, noted};
 
 /// Grids by the options that name their files.
 type Grids<'a> = &'a [(&'a str, &'a str)];
@@ -103,11 +103,14 @@ fn over_budget() {
 /// How many cells are reached, where the sheet alone does not show it.
 #[test]
 fn reached() {
-    let cases: [(&str, Grids, &str); 9] = [
+    let cases: [(&str, Grids, &str); 13] = [
         ("distance --limit 2", &[("targets", "1 0 0")], "2 of 3"),
         ("distance --limit 0", &[("targets", "1 0 0")], "1 of 3"),
         ("distance --diagonals exclude", &[("targets", "1 0 | 0 0"), ("obstacles", "0 1 | 1 0")], "1 of 4"),
+        ("distance", &[("targets", "1 0 -9999")], "2 of 3"),
+        ("distance --limit 0", &[("targets", "1 0 -9999")], "1 of 3"),
         ("travel_distance", &[("targets", "1 0 0"), ("times", "2 -9999 4")], "1 of 3"),
+        ("travel_distance", &[("targets", "1 0 1 -9999"), ("times", "2 4 -9999 4")], "2 of 4"),
         ("value_at_closest_target", &[("targets", "1 0 0"), ("values", "0 9 9")], "3 of 3"),
         ("value_at_closest_target", &[("targets", "1 0 0"), ("values", "-9999 9 9")], "3 of 3"),
         (
@@ -120,11 +123,29 @@ fn reached() {
             &[("mask", "1 -9999 0 0"), ("times", "1 1 -9999 1"), ("values", "1 1 1 1")],
             "2 of 4",
         ),
+        (
+            "sum_within_travel_distance --limit 9",
+            &[("mask", "1 0 1 0"), ("times", "1 1 -9999 1"), ("values", "1 1 1 1")],
+            "3 of 4",
+        ),
         ("sum_targets_within_travel_distance --limit 1", &[("times", "1 1 1"), ("amounts", "5 0 0")], "2 of 3"),
     ];
     for (at, (search, grids, expected)) in cases.into_iter().enumerate() {
         let folder = folder(&format!("reached-{at}"));
         let (said, _) = noted(&folder, &words(&folder, search, grids));
         assert!(said.contains(&format!(", {expected} cells reached\n")), "{search}: {said}");
+    }
+}
+
+/// The limit of search 1 counts in cells. What is not nearer holds it in metres and is not reached, whether cells are
+/// longer than a metre or shorter.
+#[test]
+fn a_limit_in_cells_of_another_size() {
+    for (cell_size, sheet) in [("10", "0 10 20 20 20"), ("0.25", "0 0.25 0.5 0.5 0.5")] {
+        let folder = folder(&format!("limit-in-cells-of-{cell_size}"));
+        grid_of_cell_size(&folder, "landings.asc", cell_size, "1 0 0 0 0");
+        let (said, _) = noted(&folder, "distance --targets landings.asc --limit 2 --out out.asc");
+        assert_eq!(cells(&folder, "out.asc"), sheet);
+        assert!(said.contains(", 2 of 5 cells reached\n"), "{cell_size}: {said}");
     }
 }

@@ -6,8 +6,12 @@ use case::{Search, draw, gridfile, plain};
 use cases::compare::Side;
 use cases::generate::generate;
 use cases::options::{Options, number, read_search, run_compare};
-use cases::{readings, stored, theorems};
+use cases::stored::{self, Failure};
+use cases::{readings, theorems};
 use oracle::{Build, Reading, answer};
+
+/// The status of `verify` where an answer differs.
+const DIFFERS: u8 = 3;
 
 const USAGE: &str = "\
 cases compare FIRST SECOND [--search N] [--cases N] [--seed N] [--large | --damaged]
@@ -21,7 +25,8 @@ cases show SEARCH INDEX [--seed N] [--large]
 cases store FOLDER
     Writes the fixed list of the oracle's answers, search-1.txt to search-8.txt.
 cases verify FOLDER
-    Asks the oracle again for every stored case.
+    Asks the oracle again for every stored case. The status is 3 where an answer differs, 1 where they can't be read or
+    a search has fewer than `store` writes.
 cases theorems REPOSITORY FOLDER COUNT
     Writes COUNT of the small stored cases of each search as statements about the rules of crates/rules, a file of antt
     for each search. `oracle/computed` has the checker compute them.
@@ -41,7 +46,17 @@ fn main() -> ExitCode {
             Options::read(options).and_then(|options| show(search, index, &options))
         }
         ["store", folder] => stored::store(Path::new(folder)),
-        ["verify", folder] => stored::verify(Path::new(folder)).map(|count| println!("{count} stored answers hold")),
+        ["verify", folder] => match stored::verify(Path::new(folder)) {
+            Ok(count) => {
+                println!("{count} stored answers hold");
+                Ok(())
+            }
+            Err(Failure::Unread(what)) => Err(what),
+            Err(Failure::Differs(what)) => {
+                eprintln!("{what}");
+                return ExitCode::from(DIFFERS);
+            }
+        },
         ["theorems", top, folder, count] => number(count)
             .and_then(|count| theorems::write(Path::new(top), Path::new(folder), count as usize))
             .map(|counts| println!("cases of each search: {counts:?}")),
