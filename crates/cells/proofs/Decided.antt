@@ -13,7 +13,7 @@ use lib.Signed.{mag}
 use Rattle.rules.specs.declared.Size.{Size}
 use Rattle.rules.specs.Cells.{index, row-of, col-of}
 use Rattle.rules.proofs.Decided.{equation-decides}
-use Rattle.cells.specs.Storing.{Neighbour, At, Outside, InGrid, cells-at, Leads}
+use Rattle.cells.specs.Storing.{Neighbour, At, Outside, Place, InGrid, cells-at, Leads, FromPlace, LeadsBy}
 use Rattle.cells.specs.Ring.{Ring, Taken, contents, RingGood, SaysEmpty, NewRing, Pushed, Took}
 use Rattle.cells.proofs.Edges.{inside}
 
@@ -34,6 +34,12 @@ leads-decides {size} {row} {col} {a = a} {b} place p q =
     let at-row : row ≡ pos (row-of size u) = row-in .is-mag ∙ ap pos (sym (digits-div (mag row) (col-in .less))) in
     let at-col : col ≡ pos (col-of size u) = col-in .is-mag ∙ ap pos (sym (digits-mod (mag row) (col-in .less))) in
     tells-one a b (equation-decides (p .leads u at-row at-col) (q .leads u at-row at-col))
+
+-- `nth_neighbour`, from the place of a cell.
+pub leads-by-decides : {size : Size} {place : Place} {i : ℕ} {a b : Neighbour} → FromPlace size place i → LeadsBy size place i a → LeadsBy size place i b → a ≡ b
+leads-by-decides {a = a} {b} from p q =
+    let (u, of, at) = from .cell in
+    tells-one a b (equation-decides (p .leads u of at) (q .leads u of at))
 
 -- ---- the ring
 
