@@ -9,7 +9,7 @@ use std::{env, fs, process};
 use library::exports::Lent;
 use oracle::Rasters;
 
-use crate::plans::Plan;
+use crate::plan::Plan;
 use crate::sides::{Outcome, expected, hash_of, lent_call, rust_call};
 
 #[derive(Debug)]

@@ -1,7 +1,9 @@
 //! The port's searches beside the Rust of docs/src, on the same seeded grids: times, or instructions for a take.
 //! `bench/run` builds and starts this.
 
+mod goals;
 mod instructions;
+mod plan;
 mod plans;
 mod report;
 mod sides;
@@ -11,7 +13,8 @@ use std::env;
 use std::process::ExitCode;
 
 use instructions::Side;
-use plans::{COUNTED, FULL, Plan, SMALL, Scale};
+use plan::Plan;
+use plans::{COUNTED, FULL, SMALL, Scale};
 use report::Ratio;
 
 const USAGE: &str = "bench [--instructions | --small] [--only WORDS]";
@@ -84,7 +87,6 @@ fn each<T: Ratio>(plans: &[Plan], measure: impl Fn(&Plan) -> Result<T, String>) 
 /// One call of one side, for callgrind to count.
 fn call(side: &str, name: &str) -> Result<(), String> {
     let side = Side::ALL.into_iter().find(|known| known.word() == side).ok_or(USAGE)?;
-    let plan = plans::plans(&COUNTED).into_iter().find(|plan| plan.name() == name).ok_or("no such grid")?;
-    instructions::one_call(&plan, side);
+    instructions::one_call(&plans::named(name)?, side);
     Ok(())
 }

@@ -3,8 +3,9 @@ use std::process::Command;
 use std::time::Duration;
 use std::{env, fs};
 
+use crate::goals;
 use crate::instructions::Counted;
-use crate::plans::Table;
+use crate::plan::Table;
 use crate::times::{Spent, Timed};
 
 /// What ours, lent, is of the Rust's.
@@ -115,7 +116,7 @@ pub fn instructions(counted: &[Counted]) {
 
 /// The goal, and whether the minimum misses it.
 fn goal(row: &Timed) -> String {
-    let Some(goal) = row.plan.goal else { return "none".into() };
+    let Some(goal) = goals::goal(&row.plan) else { return "none".into() };
     if row.ratio() <= goal { format!("{goal:.1}") } else { format!("{goal:.1} **missed**") }
 }
 

@@ -5,7 +5,7 @@ use case::Case;
 use library::exports::Lent;
 use oracle::Rasters;
 
-use crate::plans::Plan;
+use crate::plan::Plan;
 use crate::sides::{Outcome, allocating_call, expected, hash_of, lent_call, rust_call};
 
 pub const ROUNDS: usize = 9;
