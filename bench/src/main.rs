@@ -1,11 +1,13 @@
 //! The port's searches beside the Rust of docs/src, on the same seeded grids: times, or instructions for a take.
 //! `bench/run` builds and starts this.
 
+mod clock;
 mod goals;
 mod instructions;
 mod plan;
 mod plans;
 mod report;
+mod served;
 mod sides;
 mod times;
 
@@ -15,7 +17,7 @@ use std::process::ExitCode;
 use instructions::Side;
 use plan::Plan;
 use plans::{COUNTED, FULL, SMALL, Scale};
-use report::Ratio;
+use times::Way;
 
 const USAGE: &str = "bench [--instructions | --small] [--only WORDS]";
 
@@ -30,6 +32,7 @@ fn main() -> ExitCode {
     let words: Vec<String> = env::args().skip(1).collect();
     let done = match words.iter().map(String::as_str).collect::<Vec<_>>()[..] {
         ["call", side, name] => call(side, name),
+        ["serve", name] => plans::named(name).and_then(|plan| served::serve(&plan)),
         _ => asked(&words).and_then(|asked| compare(&asked)),
     };
     match done {
@@ -41,6 +44,7 @@ fn main() -> ExitCode {
     }
 }
 
+/// Reads the command line.
 fn asked(words: &[String]) -> Result<Asked, String> {
     let mut asked = Asked { instructions: false, scale: FULL, only: String::new() };
     let mut words = words.iter();
@@ -63,11 +67,13 @@ fn compare(asked: &Asked) -> Result<(), String> {
         return Err(format!("no grid's name has {:?}", asked.only));
     }
     if asked.instructions {
-        let counted = each(&plans, instructions::count)?;
+        let ratio = |row: &instructions::Counted| row.lent as f64 / row.rust as f64;
+        let counted = each(&plans, instructions::count, ratio)?;
         report::heading();
         report::instructions(&counted);
     } else {
-        let timed = each(&plans, |plan| times::time(plan, asked.scale.time))?;
+        let ratio = |row: &times::Timed| row.ratio(Way::Lent, Way::RUST);
+        let timed = each(&plans, |plan| times::time(plan, asked.scale.time), ratio)?;
         report::heading();
         report::times(&timed);
     }
@@ -75,10 +81,14 @@ fn compare(asked: &Asked) -> Result<(), String> {
 }
 
 /// Measures each grid in turn, and tells on standard error how far it is.
-fn each<T: Ratio>(plans: &[Plan], measure: impl Fn(&Plan) -> Result<T, String>) -> Result<Vec<T>, String> {
+fn each<T>(
+    plans: &[Plan],
+    measure: impl Fn(&Plan) -> Result<T, String>,
+    ratio: impl Fn(&T) -> f64,
+) -> Result<Vec<T>, String> {
     let told = |plan: &Plan| {
         let measured = measure(plan).map_err(|why| format!("{}: {why}", plan.name()))?;
-        eprintln!("{}: {:.2} of the Rust's", plan.name(), measured.ratio());
+        eprintln!("{}: {:.2} of the Rust's", plan.name(), ratio(&measured));
         Ok(measured)
     };
     plans.iter().map(told).collect()
