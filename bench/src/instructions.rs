@@ -56,6 +56,12 @@ pub fn count(plan: &Plan) -> Result<Counted, String> {
     Ok(Counted { plan: plan.clone(), takes: expected.takes, rust: rust?, one_unit: one_unit?, lent: lent? })
 }
 
+/// Ours on a grid: the instructions for a take.
+pub fn count_ours(plan: &Plan) -> Result<f64, String> {
+    let expected = expected(&plan.case());
+    Ok(count_side(plan, Side::Lent, expected)? as f64 / expected.takes as f64)
+}
+
 /// One side on a grid. An answer that differs is an error; the Rust does not know its takes.
 fn count_side(plan: &Plan, side: Side, expected: Outcome) -> Result<u64, String> {
     let (instructions, outcome) = under_callgrind(plan, side)?;

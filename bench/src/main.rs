@@ -1,7 +1,8 @@
-//! The port's searches beside the Rust of docs/src, on the same seeded grids: times, or instructions for a take.
-//! `bench/run` builds and starts this.
+//! The port's searches beside the Rust of docs/src, on the same seeded grids: times, or instructions for a take. For the
+//! gate, our instructions for a take beside stored ones. `bench/run` builds and starts this.
 
 mod clock;
+mod gate;
 mod goals;
 mod instructions;
 mod plan;
@@ -19,7 +20,7 @@ use plan::Plan;
 use plans::{COUNTED, FULL, SMALL, Scale};
 use times::Way;
 
-const USAGE: &str = "bench [--instructions | --small] [--only WORDS]";
+const USAGE: &str = "bench [--instructions | --small] [--only WORDS], or bench --gate [--store]";
 
 /// What was asked for.
 struct Asked {
@@ -33,6 +34,8 @@ fn main() -> ExitCode {
     let done = match words.iter().map(String::as_str).collect::<Vec<_>>()[..] {
         ["call", side, name] => call(side, name),
         ["serve", name] => plans::named(name).and_then(|plan| served::serve(&plan)),
+        ["--gate"] => gate::hold(),
+        ["--gate", "--store"] => gate::store(),
         _ => asked(&words).and_then(|asked| compare(&asked)),
     };
     match done {

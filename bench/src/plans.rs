@@ -45,8 +45,22 @@ pub fn plans(scale: &Scale) -> Vec<Plan> {
 
 /// The grid of this name, of any scale: a started process makes its grid anew.
 pub fn named(name: &str) -> Result<Plan, String> {
-    let mut all = [FULL, COUNTED, SMALL].iter().flat_map(plans);
+    let mut all = [FULL, COUNTED, SMALL].iter().flat_map(plans).chain(gated());
     all.find(|plan| plan.name() == name).ok_or_else(|| format!("no grid is named {name:?}"))
+}
+
+/// Small grids for the gate: each search once, and again where another way of it has other instructions.
+pub fn gated() -> Vec<Plan> {
+    let on = |side, starts| move |search| Plan::new(Table::Square, search, (side, side), starts);
+    let wide = on(64, 4);
+    let searches = Search::ALL.into_iter().filter(|search| !search.has_budget()).map(wide);
+    let mut plans: Vec<Plan> = searches.flat_map(|plan| with_both_diagonals(plan, 20)).collect();
+    plans.extend(with_and_without_adjacent(Plan { nodata: 5, ..on(24, 4)(SumWithinTravelDistance) }));
+    plans.push(Plan { walls: Some(8), ..on(64, 16)(SumWithinTravelDistance) });
+    plans.push(Plan { limit: LARGE_BUDGET, ..on(24, 4)(SumTargetsWithinTravelDistance) });
+    plans.push(on(64, 16)(SumTargetsWithinTravelDistance));
+    plans.extend([DistancesUpTo, TravelDistancesUpTo].map(|search| Plan::new(Table::Narrow, search, (1000, 2), 4)));
+    plans
 }
 
 impl Scale {
@@ -141,7 +155,7 @@ mod tests {
     /// A grid is found by its name in a started process.
     #[test]
     fn each_grid_has_a_name_of_its_own() {
-        for grids in [plans(&FULL), plans(&COUNTED), plans(&SMALL)] {
+        for grids in [plans(&FULL), plans(&COUNTED), plans(&SMALL), gated()] {
             let names: Vec<String> = grids.iter().map(Plan::name).collect();
             for (at, name) in names.iter().enumerate() {
                 assert!(!names[..at].contains(name), "{name}");
