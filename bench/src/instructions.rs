@@ -11,6 +11,10 @@ use library::exports::Lent;
 use crate::plan::Plan;
 use crate::sides::{Outcome, Rusts, Units, expected, hash_of, lent_call};
 
+/// How glibc fills memory depends on the processor, and `rep stosb` counts as one instruction for each byte. Without what
+/// is named here it fills alike everywhere, 16 bytes an instruction.
+const FILLS: (&str, &str) = ("GLIBC_TUNABLES", "glibc.cpu.hwcaps=-ERMS,-FSRM,-AVX2,-AVX_Fast_Unaligned_Load,-SSSE3");
+
 /// A grid with the instructions of each side.
 #[derive(Debug)]
 pub struct Counted {
@@ -97,6 +101,7 @@ fn under_callgrind(plan: &Plan, side: Side) -> Result<(u64, Outcome), String> {
         .arg(format!("--callgrind-out-file={}", profile.display()))
         .arg(this)
         .args(["call", side.word(), &plan.name()])
+        .env(FILLS.0, FILLS.1)
         .output()
         .map_err(|error| format!("valgrind: {error}"))?;
     if !output.status.success() {
