@@ -65,6 +65,7 @@ impl Plan {
         }
     }
 
+    /// How many cells it has.
     pub fn cells(&self) -> usize {
         self.rows as usize * self.cols as usize
     }

@@ -160,6 +160,7 @@ fn milliseconds(spent: Spent) -> String {
     format!("{:.2} ({:.2})", nanoseconds(spent.processor) / 1e6, nanoseconds(spent.wall) / 1e6)
 }
 
+/// A time as a number.
 fn nanoseconds(time: Duration) -> f64 {
     time.as_secs_f64() * 1e9
 }

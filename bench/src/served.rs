@@ -66,6 +66,7 @@ impl Served {
 }
 
 impl Drop for Served {
+    /// Ends its input, and waits.
     fn drop(&mut self) {
         self.asked = None;
         self.child.wait().expect("a started process can be waited for");

@@ -35,6 +35,7 @@ pub struct Rusts<'a> {
 }
 
 impl Rusts<'_> {
+    /// The rasters, made apart from the calls.
     pub fn of(case: &Case) -> Rusts<'_> {
         Rusts { sixteen: called::Rasters::of(case), one: called_one_unit::Rasters::of(case) }
     }
