@@ -1,9 +1,14 @@
-//! The port's searches beside the Rust of docs/src, on the same seeded grids: times, or instructions for a take.
-//! `bench/run` builds and starts this.
+//! The port's searches beside the Rust of docs/src, on the same seeded grids: times, or instructions for a take. For the
+//! gate, our instructions for a take beside stored ones. `bench/run` builds and starts this.
 
+mod clock;
+mod gate;
+mod goals;
 mod instructions;
+mod plan;
 mod plans;
 mod report;
+mod served;
 mod sides;
 mod times;
 
@@ -11,10 +16,11 @@ use std::env;
 use std::process::ExitCode;
 
 use instructions::Side;
-use plans::{COUNTED, FULL, Plan, SMALL, Scale};
-use report::Ratio;
+use plan::Plan;
+use plans::{COUNTED, FULL, SMALL, Scale};
+use times::Way;
 
-const USAGE: &str = "bench [--instructions | --small] [--only WORDS]";
+const USAGE: &str = "bench [--instructions | --small] [--only WORDS], or bench --gate [--store]";
 
 /// What was asked for.
 struct Asked {
@@ -27,6 +33,9 @@ fn main() -> ExitCode {
     let words: Vec<String> = env::args().skip(1).collect();
     let done = match words.iter().map(String::as_str).collect::<Vec<_>>()[..] {
         ["call", side, name] => call(side, name),
+        ["serve", name] => plans::named(name).and_then(|plan| served::serve(&plan)),
+        ["--gate"] => gate::hold(),
+        ["--gate", "--store"] => gate::store(),
         _ => asked(&words).and_then(|asked| compare(&asked)),
     };
     match done {
@@ -38,6 +47,7 @@ fn main() -> ExitCode {
     }
 }
 
+/// Reads the command line.
 fn asked(words: &[String]) -> Result<Asked, String> {
     let mut asked = Asked { instructions: false, scale: FULL, only: String::new() };
     let mut words = words.iter();
@@ -60,11 +70,13 @@ fn compare(asked: &Asked) -> Result<(), String> {
         return Err(format!("no grid's name has {:?}", asked.only));
     }
     if asked.instructions {
-        let counted = each(&plans, instructions::count)?;
+        let ratio = |row: &instructions::Counted| row.lent as f64 / row.rust as f64;
+        let counted = each(&plans, instructions::count, ratio)?;
         report::heading();
         report::instructions(&counted);
     } else {
-        let timed = each(&plans, |plan| times::time(plan, asked.scale.time))?;
+        let ratio = |row: &times::Timed| row.ratio(Way::Lent, Way::RUST);
+        let timed = each(&plans, |plan| times::time(plan, asked.scale.time), ratio)?;
         report::heading();
         report::times(&timed);
     }
@@ -72,10 +84,14 @@ fn compare(asked: &Asked) -> Result<(), String> {
 }
 
 /// Measures each grid in turn, and tells on standard error how far it is.
-fn each<T: Ratio>(plans: &[Plan], measure: impl Fn(&Plan) -> Result<T, String>) -> Result<Vec<T>, String> {
+fn each<T>(
+    plans: &[Plan],
+    measure: impl Fn(&Plan) -> Result<T, String>,
+    ratio: impl Fn(&T) -> f64,
+) -> Result<Vec<T>, String> {
     let told = |plan: &Plan| {
         let measured = measure(plan).map_err(|why| format!("{}: {why}", plan.name()))?;
-        eprintln!("{}: {:.2} of the Rust's", plan.name(), measured.ratio());
+        eprintln!("{}: {:.2} of the Rust's", plan.name(), ratio(&measured));
         Ok(measured)
     };
     plans.iter().map(told).collect()
@@ -84,7 +100,6 @@ fn each<T: Ratio>(plans: &[Plan], measure: impl Fn(&Plan) -> Result<T, String>) 
 /// One call of one side, for callgrind to count.
 fn call(side: &str, name: &str) -> Result<(), String> {
     let side = Side::ALL.into_iter().find(|known| known.word() == side).ok_or(USAGE)?;
-    let plan = plans::plans(&COUNTED).into_iter().find(|plan| plan.name() == name).ok_or("no such grid")?;
-    instructions::one_call(&plan, side);
+    instructions::one_call(&plans::named(name)?, side);
     Ok(())
 }

@@ -1,28 +1,13 @@
-//! The tables, in markdown.
+//! The tables, in markdown: one for each question.
 use std::process::Command;
 use std::time::Duration;
 use std::{env, fs};
 
+use crate::clock::Spent;
+use crate::goals::{GROUPS, Group, group};
 use crate::instructions::Counted;
-use crate::plans::Table;
-use crate::times::{Spent, Timed};
-
-/// What ours, lent, is of the Rust's.
-pub trait Ratio {
-    fn ratio(&self) -> f64;
-}
-
-impl Ratio for Timed {
-    fn ratio(&self) -> f64 {
-        ratio(self.lent.least, self.rust.least)
-    }
-}
-
-impl Ratio for Counted {
-    fn ratio(&self) -> f64 {
-        self.lent as f64 / self.rust as f64
-    }
-}
+use crate::plan::Table;
+use crate::times::{Timed, Way};
 
 /// The command, the processor and its cores, the Rust compiler, the date.
 pub fn heading() {
@@ -38,100 +23,144 @@ pub fn heading() {
     );
 }
 
+/// A word as it is typed.
 fn quoted(word: &str) -> String {
     if word.contains(' ') { format!("\"{word}\"") } else { word.to_owned() }
 }
 
+/// What a program writes for one word.
 fn said(program: &str, word: &str) -> String {
     let output = Command::new(program).arg(word).output();
     output.map_or_else(|_| format!("no {program}"), |output| String::from_utf8_lossy(&output.stdout).trim().to_owned())
 }
 
+/// All tables of times.
 pub fn times(timed: &[Timed]) {
-    for (table, heading) in [(Table::Square, "Square grids"), (Table::Narrow, "Narrow grids")] {
-        if !timed.iter().any(|row| row.plan.table == table) {
-            continue;
-        }
-        println!("\n### {heading}\n");
-        println!("Milliseconds and ratios: the minimum, and in brackets the median.\n");
-        println!(
-            "| search and grid | takes | Rust | ours, lent | ratio | goal | ours, allocating | ratio | ns a take: Rust | ours, lent |"
-        );
-        println!("|---|---|---|---|---|---|---|---|---|---|");
-        timed.iter().filter(|row| row.plan.table == table).for_each(times_row);
-    }
-    if timed.iter().any(|row| row.plan.table == Table::Growth) {
-        println!("\n### Growth\n");
-        println!("| search and grid | takes a cell | ns a cell: Rust | ours, lent | ratio |");
-        println!("|---|---|---|---|---|");
-        timed.iter().filter(|row| row.plan.table == Table::Growth).for_each(growth_row);
-    }
+    let (growth, others): (Vec<&Timed>, Vec<&Timed>) = timed.iter().partition(|row| row.plan.table == Table::Growth);
+    let columns =
+        ["grids", "how many", "ratio to the Rust", "goal", "missed by", "ratio to one unit", "goal", "missed by"];
+    table("Goals", &columns, GROUPS.iter().filter_map(|group| goals_row(group, timed)));
+    let columns = ["search and grid", "takes", "Rust", "ours, lent", "ratio", "goal", "ns a take: Rust", "ours, lent"];
+    let of = |table| others.iter().filter(move |row| row.plan.table == table).map(|row| cargo_row(row));
+    table("Square grids beside the Rust as cargo builds it", &columns, of(Table::Square));
+    table("Narrow grids beside the Rust as cargo builds it, warm", &columns, of(Table::Narrow));
+    let columns = ["search and grid", "Rust", "Rust in one unit", "ours, lent", "ratio to one unit", "goal"];
+    table("Beside the Rust in one codegen unit", &columns, others.iter().map(|row| one_unit_row(row)));
+    let columns =
+        ["search and grid", "Rust", "Rust, warm", "one unit, warm", "ours, lent", "ratio to warm", "to one unit, warm"];
+    table("Beside the Rust with warm memory", &columns, others.iter().map(|row| memory_row(row)));
+    let columns = ["search and grid", "ours, lent", "ours, allocating", "ratio to the Rust", "to one unit"];
+    table("Ours when it allocates", &columns, others.iter().map(|row| allocating_row(row)));
+    let columns = [
+        "search and grid",
+        "takes a cell",
+        "ns a cell: Rust",
+        "one unit",
+        "ours, lent",
+        "ratio, of its goal",
+        "to one unit, of its goal",
+    ];
+    table("Growth", &columns, growth.iter().map(|row| growth_row(row)));
 }
 
-fn times_row(row: &Timed) {
-    println!(
-        "| {} | {} | {} | {} | {} | {} | {} | {} | {:.1} | {:.1} |",
-        row.plan.name(),
-        grouped(row.takes),
-        milliseconds(row.rust),
-        milliseconds(row.lent),
-        ratios(row.lent, row.rust),
-        goal(row),
-        milliseconds(row.allocating),
-        ratios(row.allocating, row.rust),
-        nanoseconds(row.rust.least) / row.takes as f64,
-        nanoseconds(row.lent.least) / row.takes as f64,
-    );
-}
-
-fn growth_row(row: &Timed) {
-    let cells = row.plan.cells() as f64;
-    println!(
-        "| {} | {:.2} | {:.1} | {:.1} | {} |",
-        row.plan.name(),
-        row.takes as f64 / cells,
-        nanoseconds(row.rust.least) / cells,
-        nanoseconds(row.lent.least) / cells,
-        ratios(row.lent, row.rust),
-    );
-}
-
+/// The table of instructions.
 pub fn instructions(counted: &[Counted]) {
-    println!("\n### Instructions for a take\n");
-    println!("| search and grid | takes | Rust | ours, lent | ratio |");
-    println!("|---|---|---|---|---|");
-    for row in counted {
-        let a_take = |instructions: u64| instructions as f64 / row.takes as f64;
-        println!(
-            "| {} | {} | {:.0} | {:.0} | {:.2} |",
-            row.plan.name(),
-            grouped(row.takes),
-            a_take(row.rust),
-            a_take(row.lent),
-            row.ratio()
-        );
+    let columns = ["search and grid", "takes", "Rust", "Rust in one unit", "ours, lent", "ratio", "to one unit"];
+    table("Instructions for a take", &columns, counted.iter().map(instructions_row));
+}
+
+/// A heading and a table; nothing where there are no rows.
+fn table<const N: usize>(heading: &str, columns: &[&str; N], rows: impl Iterator<Item = [String; N]>) {
+    let lines: Vec<String> = rows.map(|fields| format!("| {} |", fields.join(" | "))).collect();
+    if !lines.is_empty() {
+        println!("\n### {heading}\n\n| {} |\n|{}\n{}", columns.join(" | "), "---|".repeat(N), lines.join("\n"));
     }
 }
 
-/// The goal, and whether the minimum misses it.
-fn goal(row: &Timed) -> String {
-    let Some(goal) = row.plan.goal else { return "none".into() };
-    if row.ratio() <= goal { format!("{goal:.1}") } else { format!("{goal:.1} **missed**") }
+/// The grids of a group: how many, the span of each ratio, its goal, and how many miss that.
+fn goals_row(of: &Group, timed: &[Timed]) -> Option<[String; 8]> {
+    let grids: Vec<&Timed> = timed.iter().filter(|row| group(&row.plan) == of).collect();
+    let judged = |rust, goal: Option<f64>| {
+        let mut ratios: Vec<f64> = grids.iter().map(|row| row.ratio(Way::Lent, rust)).collect();
+        ratios.sort_by(f64::total_cmp);
+        let span = format!("{:.2} to {:.2}", ratios.first()?, ratios.last()?);
+        let Some(goal) = goal else { return Some([span, "none".into(), String::new()]) };
+        let missed = ratios.iter().filter(|&&ratio| ratio > goal).count();
+        Some([span, format!("{goal:.2}"), if missed == 0 { "none".into() } else { format!("**{missed}**") }])
+    };
+    let ([span, goal, missed], [one_span, one_goal, one_missed]) =
+        (judged(of.rust, Some(of.cargo))?, judged(Way::ONE_UNIT, of.one_unit)?);
+    Some([of.name.into(), grids.len().to_string(), span, goal, missed, one_span, one_goal, one_missed])
 }
 
+/// A grid beside the Rust as cargo builds it.
+fn cargo_row(of: &Timed) -> [String; 8] {
+    let group = group(&of.plan);
+    let [rust, lent] = [group.rust, Way::Lent].map(|way| milliseconds(of.of(way)));
+    let (ratio, goal) = (ratio(of, Way::Lent, group.rust), goal(of, group.rust, Some(group.cargo)));
+    let a_take = |way| format!("{:.1}", nanoseconds(of.of(way).processor) / of.takes as f64);
+    [of.plan.name(), grouped(of.takes), rust, lent, ratio, goal, a_take(group.rust), a_take(Way::Lent)]
+}
+
+/// A grid beside the Rust in one codegen unit.
+fn one_unit_row(of: &Timed) -> [String; 6] {
+    let [rust, one, lent] = [Way::RUST, Way::ONE_UNIT, Way::Lent].map(|way| milliseconds(of.of(way)));
+    let goal = goal(of, Way::ONE_UNIT, group(&of.plan).one_unit);
+    [of.plan.name(), rust, one, lent, ratio(of, Way::Lent, Way::ONE_UNIT), goal]
+}
+
+/// A grid beside the Rust that finds its memory mapped.
+fn memory_row(of: &Timed) -> [String; 7] {
+    let [cold, warm, one, lent] =
+        [Way::RUST, Way::WARM, Way::WARM_ONE_UNIT, Way::Lent].map(|way| milliseconds(of.of(way)));
+    let [to_warm, to_one] = [Way::WARM, Way::WARM_ONE_UNIT].map(|way| ratio(of, Way::Lent, way));
+    [of.plan.name(), cold, warm, one, lent, to_warm, to_one]
+}
+
+/// A grid through the function that allocates.
+fn allocating_row(of: &Timed) -> [String; 5] {
+    let [lent, allocating] = [Way::Lent, Way::Allocating].map(|way| milliseconds(of.of(way)));
+    let [to_rust, to_one] = [Way::RUST, Way::ONE_UNIT].map(|way| ratio(of, Way::Allocating, way));
+    [of.plan.name(), lent, allocating, to_rust, to_one]
+}
+
+/// A grid of those from small to large, for a cell.
+fn growth_row(of: &Timed) -> [String; 7] {
+    let cells = of.plan.cells() as f64;
+    let takes = format!("{:.2}", of.takes as f64 / cells);
+    let a_cell = |way| format!("{:.1}", nanoseconds(of.of(way).processor) / cells);
+    let [rust, one, lent] = [Way::RUST, Way::ONE_UNIT, Way::Lent].map(a_cell);
+    let group = group(&of.plan);
+    let judged = |rust, of_group| format!("{} of {}", ratio(of, Way::Lent, rust), goal(of, rust, of_group));
+    let (to_rust, to_one) = (judged(Way::RUST, Some(group.cargo)), judged(Way::ONE_UNIT, group.one_unit));
+    [of.plan.name(), takes, rust, one, lent, to_rust, to_one]
+}
+
+/// A grid's instructions for a take.
+fn instructions_row(of: &Counted) -> [String; 7] {
+    let [rust, one, lent] =
+        [of.rust, of.one_unit, of.lent].map(|counted| format!("{:.0}", counted as f64 / of.takes as f64));
+    let [to_rust, to_one] = [of.rust, of.one_unit].map(|rust| format!("{:.2}", of.lent as f64 / rust as f64));
+    [of.plan.name(), grouped(of.takes), rust, one, lent, to_rust, to_one]
+}
+
+/// The goal, and whether it is missed.
+fn goal(of: &Timed, rust: Way, goal: Option<f64>) -> String {
+    let Some(goal) = goal else { return "none".into() };
+    if of.ratio(Way::Lent, rust) <= goal { format!("{goal:.2}") } else { format!("{goal:.2} **missed**") }
+}
+
+/// One way's processor time as a part of another's.
+fn ratio(of: &Timed, ours: Way, rust: Way) -> String {
+    format!("{:.2}", of.ratio(ours, rust))
+}
+
+/// Processor time, and in brackets wall time.
 fn milliseconds(spent: Spent) -> String {
-    let milliseconds = |time: Duration| nanoseconds(time) / 1e6;
-    format!("{:.2} ({:.2})", milliseconds(spent.least), milliseconds(spent.median))
+    format!("{:.2} ({:.2})", nanoseconds(spent.processor) / 1e6, nanoseconds(spent.wall) / 1e6)
 }
 
-fn ratios(ours: Spent, rust: Spent) -> String {
-    format!("{:.2} ({:.2})", ratio(ours.least, rust.least), ratio(ours.median, rust.median))
-}
-
-fn ratio(ours: Duration, rust: Duration) -> f64 {
-    ours.as_secs_f64() / rust.as_secs_f64()
-}
-
+/// A time as a number.
 fn nanoseconds(time: Duration) -> f64 {
     time.as_secs_f64() * 1e9
 }

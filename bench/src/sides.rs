@@ -1,9 +1,9 @@
-//! One call of either side, and what it answered.
+//! One call of a side, and what it answered.
 use case::{Answer, Case, bits_with_one_nan};
 use haul::Sheet;
 use library::exports::{self, Lent};
 use library::safe;
-use oracle::{Build, Cells, Rasters, Reading};
+use oracle::{Build, Cells, Reading};
 
 /// What is compared: the takes, and a hash of the answer in which each NaN is the one NaN.
 #[derive(Clone, Copy, Debug, PartialEq, Eq)]
@@ -20,10 +20,34 @@ pub fn expected(case: &Case) -> Outcome {
     }
 }
 
-/// The Rust. Its rasters are there; all that it allocates itself is a part of the call.
-#[inline(never)]
-pub fn rust_call<'a>(rasters: &'a Rasters<f32>) -> Box<dyn Cells + 'a> {
-    rasters.search().expect("the Rust refuses no grid of the benchmark")
+/// The two builds of the Rust that are measured. Neither knows its takes.
+#[derive(Clone, Copy, Debug, PartialEq, Eq)]
+pub enum Units {
+    /// As cargo builds it.
+    Sixteen,
+    One,
+}
+
+/// A grid's rasters for either build.
+pub struct Rusts<'a> {
+    sixteen: called::Rasters<'a>,
+    one: called_one_unit::Rasters<'a>,
+}
+
+impl Rusts<'_> {
+    /// The rasters, made apart from the calls.
+    pub fn of(case: &Case) -> Rusts<'_> {
+        Rusts { sixteen: called::Rasters::of(case), one: called_one_unit::Rasters::of(case) }
+    }
+
+    /// The Rust. Its rasters are there; all that it allocates itself is a part of the call.
+    #[inline(never)]
+    pub fn rust_call(&self, units: Units) -> Box<dyn Cells + '_> {
+        match units {
+            Units::Sixteen => called::search(&self.sixteen),
+            Units::One => called_one_unit::search(&self.one),
+        }
+    }
 }
 
 /// Ours with all slices lent. Gives the takes.
@@ -40,6 +64,7 @@ pub fn allocating_call(case: &Case) -> Sheet {
     safe::sheet(case).expect("no grid of the benchmark is refused")
 }
 
+/// The hash of an answer.
 pub fn hash_of(answer: &[f32]) -> u64 {
     hash(answer.iter().map(|&cell| bits_with_one_nan(cell)))
 }

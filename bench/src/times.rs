@@ -1,83 +1,103 @@
-//! Times of both sides on one grid, in interleaved rounds.
+//! Times of all sides on one grid, in interleaved rounds.
 use std::time::{Duration, Instant};
 
 use case::Case;
 use library::exports::Lent;
-use oracle::Rasters;
 
-use crate::plans::Plan;
-use crate::sides::{Outcome, allocating_call, expected, hash_of, lent_call, rust_call};
+use crate::clock::{Spent, timed};
+use crate::plan::Plan;
+use crate::served::{Memory, Served};
+use crate::sides::{Outcome, Units, allocating_call, expected, hash_of, lent_call};
 
-pub const ROUNDS: usize = 9;
+const ROUNDS: usize = 9;
 const MOST_ROUNDS: usize = 999;
 
-/// The least and the median time of a call.
-#[derive(Clone, Copy, Debug)]
-pub struct Spent {
-    pub least: Duration,
-    pub median: Duration,
-}
-
-#[derive(Debug)]
-pub struct Timed {
-    pub plan: Plan,
-    pub takes: u64,
-    pub rust: Spent,
-    pub lent: Spent,
-    pub allocating: Spent,
-}
-
-/// The three calls that a round has.
-#[derive(Clone, Copy, Debug)]
-enum Way {
-    Rust,
+/// The calls that a round has.
+#[derive(Clone, Copy, Debug, PartialEq, Eq)]
+pub enum Way {
+    Rust(Units, Memory),
     Lent,
     Allocating,
 }
 
-const WAYS: [Way; 3] = [Way::Rust, Way::Lent, Way::Allocating];
+impl Way {
+    pub const RUST: Way = Way::Rust(Units::Sixteen, Memory::Cold);
+    pub const ONE_UNIT: Way = Way::Rust(Units::One, Memory::Cold);
+    pub const WARM: Way = Way::Rust(Units::Sixteen, Memory::Warm);
+    pub const WARM_ONE_UNIT: Way = Way::Rust(Units::One, Memory::Warm);
+
+    const ALL: [Way; 6] = [Way::RUST, Way::ONE_UNIT, Way::Lent, Way::WARM, Way::WARM_ONE_UNIT, Way::Allocating];
+}
+
+/// The times of a round, in the order of the ways.
+type Round = [Spent; Way::ALL.len()];
+
+/// A grid with the least times of each way.
+#[derive(Debug)]
+pub struct Timed {
+    pub plan: Plan,
+    pub takes: u64,
+    spent: Round,
+}
+
+impl Timed {
+    /// The least times of a way.
+    pub fn of(&self, way: Way) -> Spent {
+        self.spent[Way::ALL.iter().position(|&known| known == way).expect("each way is measured")]
+    }
+
+    /// The processor time of one way as a part of another's.
+    pub fn ratio(&self, way: Way, to: Way) -> f64 {
+        self.of(way).processor.as_secs_f64() / self.of(to).processor.as_secs_f64()
+    }
+}
 
 /// All that the calls need, made beforehand.
 struct Ready<'a> {
     case: &'a Case,
-    rasters: Rasters<'a, f32>,
+    /// A process for each memory, in their order.
+    served: Vec<Served>,
     lent: Lent,
     expected: Outcome,
 }
 
-/// Both sides on a grid, in nine rounds or more until so much time is spent. An answer that differs is an error.
+/// All sides on a grid, in nine rounds or more until so much time is spent. An answer that differs is an error.
 pub fn time(plan: &Plan, at_least: Duration) -> Result<Timed, String> {
     let case = plan.case();
+    let served: Result<_, _> = Memory::ALL.into_iter().map(|memory| Served::start(plan, memory)).collect();
+    let served = served.map_err(|error| format!("a process of the Rust: {error}"))?;
     let lent = Lent::new(case.search, plan.cells());
-    let mut ready = Ready { case: &case, rasters: Rasters::of(&case), lent, expected: expected(&case) };
-    // Not timed: it leaves the lent buffers zero and their pages touched.
+    let mut ready = Ready { case: &case, served, lent, expected: expected(&case) };
+    // Not timed: it leaves the lent buffers zero and their pages touched, and each Rust what it keeps.
     ready.round(0)?;
-    let mut spent: [Vec<Duration>; 3] = Default::default();
-    let started = Instant::now();
-    while spent[0].len() < ROUNDS || started.elapsed() < at_least && spent[0].len() < MOST_ROUNDS {
-        let round = ready.round(spent[0].len())?;
-        spent.iter_mut().zip(round).for_each(|(times, time)| times.push(time));
+    let mut spent = ready.round(0)?;
+    let (started, mut rounds) = (Instant::now(), 1);
+    while rounds < ROUNDS || started.elapsed() < at_least && rounds < MOST_ROUNDS {
+        let round = ready.round(rounds)?;
+        spent.iter_mut().zip(round).for_each(|(least, time)| *least = least.least(time));
+        rounds += 1;
     }
-    let [rust, lent, allocating] = spent.map(summary);
-    Ok(Timed { plan: plan.clone(), takes: ready.expected.takes, rust, lent, allocating })
+    Ok(Timed { plan: plan.clone(), takes: ready.expected.takes, spent })
 }
 
 impl Ready<'_> {
     /// Each way once, another one first in each round.
-    fn round(&mut self, number: usize) -> Result<[Duration; 3], String> {
-        let mut spent = [Duration::ZERO; 3];
-        for turn in 0..3 {
-            let at = (number + turn) % 3;
-            spent[at] = self.call(WAYS[at])?;
+    fn round(&mut self, number: usize) -> Result<Round, String> {
+        let mut spent = [Spent { processor: Duration::ZERO, wall: Duration::ZERO }; Way::ALL.len()];
+        for turn in 0..spent.len() {
+            let at = (number + turn) % spent.len();
+            spent[at] = self.call(Way::ALL[at])?;
         }
         Ok(spent)
     }
 
-    fn call(&mut self, way: Way) -> Result<Duration, String> {
+    /// A call of one way, whose answer must be the expected one.
+    fn call(&mut self, way: Way) -> Result<Spent, String> {
         let (spent, outcome) = match way {
-            Way::Rust => {
-                let (spent, answer) = timed(|| rust_call(&self.rasters));
-                (spent, Outcome { takes: self.expected.takes, hash: hash_of(answer.cells()) })
+            Way::Rust(units, memory) => {
+                let (spent, hash) = self.served[memory as usize].call(units)?;
+                // The Rust does not know its takes.
+                (spent, Outcome { takes: self.expected.takes, hash })
             }
             Way::Lent => {
                 let (spent, takes) = timed(|| lent_call(self.case, &mut self.lent));
@@ -95,24 +115,13 @@ impl Ready<'_> {
     }
 }
 
-/// The answer is dropped by the caller, so that giving its memory back is no part of the time.
-fn timed<T>(call: impl FnOnce() -> T) -> (Duration, T) {
-    let started = Instant::now();
-    let answer = call();
-    (started.elapsed(), answer)
-}
-
-fn summary(mut times: Vec<Duration>) -> Spent {
-    times.sort();
-    Spent { least: times[0], median: times[times.len() / 2] }
-}
-
 #[cfg(test)]
 mod tests {
     use super::*;
     use crate::plans::{SMALL, plans};
 
-    /// For each grid and each way, a wrong hash is an error; and wrong takes are, where the way tells its takes.
+    /// For each grid and each way of ours, a wrong hash is an error, and so are wrong takes. The test's program can't be
+    /// started to serve the Rust, whose answers are tested there.
     #[test]
     fn a_difference_is_an_error() {
         for plan in plans(&SMALL) {
@@ -120,13 +129,12 @@ mod tests {
             let right = expected(&case);
             let result = |way, expected| {
                 let lent = Lent::new(case.search, plan.cells());
-                Ready { case: &case, rasters: Rasters::of(&case), lent, expected }.call(way)
+                Ready { case: &case, served: vec![], lent, expected }.call(way)
             };
-            for way in WAYS {
+            for way in [Way::Lent, Way::Allocating] {
                 assert!(result(way, right).is_ok());
                 assert!(result(way, Outcome { hash: right.hash ^ 1, ..right }).is_err());
-                let other_takes = result(way, Outcome { takes: right.takes + 1, ..right });
-                assert_eq!(other_takes.is_ok(), matches!(way, Way::Rust));
+                assert!(result(way, Outcome { takes: right.takes + 1, ..right }).is_err());
             }
         }
     }

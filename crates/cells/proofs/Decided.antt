@@ -13,7 +13,8 @@ use lib.Signed.{mag}
 use Rattle.rules.specs.declared.Size.{Size}
 use Rattle.rules.specs.Cells.{index, row-of, col-of}
 use Rattle.rules.proofs.Decided.{equation-decides}
-use Rattle.cells.specs.Storing.{Neighbour, At, Outside, Place, InGrid, cells-at, Leads, FromPlace, LeadsBy}
+use Rattle.cells.specs.Storing.{Neighbour, At, Outside, InGrid, cells-at, Leads, FromPlace, LeadsBy}
+use Rattle.cells.specs.Neighbours.{Place}
 use Rattle.cells.specs.Ring.{Ring, Taken, contents, RingGood, SaysEmpty, NewRing, Pushed, Took}
 use Rattle.cells.proofs.Edges.{inside}
 

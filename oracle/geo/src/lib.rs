@@ -1,8 +1,9 @@
 //! The raster distance module of docs/src, each file compiled as it stands, and a shim for what it leans on and does
 //! not have: the element types, the operators on arrays, the georeference and its size, aligned vectors and casts.
 //!
-//! Two packages compile this file. `geo` is the text itself. `geo-counted` takes the queue's file with one line added,
-//! so that `takes` knows how many cells were taken from the queue.
+//! Three packages compile this file. `geo` is the text itself. `geo-counted` takes the queue's file with one line added,
+//! so that `takes` knows how many cells were taken from the queue. `geo-one-unit` is the text in one codegen unit, for the
+//! benchmark.
 #![allow(dead_code, unused_imports)]
 
 // The text says `inf::allocate`, `inf::cast` and `log::warn!`.
