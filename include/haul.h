@@ -20,10 +20,10 @@
  * and the buffers as they were. `takes` is written by an accepted call only, `index` only by a refusal that has one.
  *
  * The searches keep no state: calls with slices of their own may run at the same time. Nothing is allocated. A search
- * needs less than one kilobyte of stack, `haul_answer` more.
+ * needs about one kilobyte of stack, `haul_answer` more; at a first call the dynamic linker may need three besides.
  *
- * What is proved. The promises hold for every input, but for two things that only runs have shown: that a NaN in an
- * answer has the bits 0x7FC00000, and the stack above.
+ * What is not proved. That a NaN in an answer has the bits 0x7FC00000, and how much stack a call needs, is seen by runs
+ * alone.
  */
 #ifndef HAUL_H
 #define HAUL_H
@@ -211,8 +211,8 @@ uint32_t haul_sum_targets_within_travel_distance(
 /*
  * The program `haul` as a call: a grid file goes in, its answer file comes out. A file that does not keep the form is
  * answered by refusal 8. Returns how many bytes stand at the front of the output; what follows them there is as it was.
- * Where the output is shorter than HAUL_ANSWER_MAX nothing is written, and 0 is returned. It needs about 40 kilobytes of
- * stack, for the grids that the file holds.
+ * Where the output is shorter than HAUL_ANSWER_MAX nothing is written, and 0 is returned. It needs about 40 kilobytes
+ * of stack, for the grids that the file holds.
  */
 uint32_t haul_answer(
     const uint8_t *input, size_t input_len, /* the grid file */
