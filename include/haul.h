@@ -22,10 +22,10 @@
  * and the buffers as they were. `takes` is written by an accepted call only, `index` only by a refusal that has one.
  *
  * The searches keep no state: calls with slices of their own may run at the same time. Nothing is allocated. A search
- * needs less than one kilobyte of stack, `haul_answer` more.
+ * needs about one kilobyte of stack, `haul_answer` more; at a first call the dynamic linker may need three besides.
  *
- * What is proved. The promises hold for every input, but for two things that only runs have shown: that a NaN in an
- * answer has the bits 0x7FC00000, and the stack above.
+ * What is not proved. That a NaN in an answer has the bits 0x7FC00000, and how much stack a call needs, is seen by runs
+ * alone.
  */
 #ifndef HAUL_H
 #define HAUL_H
