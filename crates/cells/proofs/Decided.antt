@@ -1,8 +1,8 @@
--- What the promises of this crate decide: two outcomes that keep one promise coincide. That of `neighbours_of` is `lists-decided`, beside the laws of
+-- What the promises of this crate decide: two outcomes that keep one promise coincide. That of `neighbours_of` and `interior_neighbours` is `lists-decided`, beside the laws of
 -- its array. The ring's promises speak of the waiting cells alone, so that of `push` and `take` the slots in which they stand are not decided. Assumes
 -- nothing.
 use mathlib.Core.Path.{_≡_, refl, sym, ap, _∙_}
-use mathlib.Core.Bool.{Bool}
+use mathlib.Core.Bool.{Bool, true, false}
 use mathlib.Core.List.{List, [], _∷_}
 use Prim.Native.Nat.{ℕ, suc, _+_}
 use native.Mathlib.Omega.{arith}
@@ -13,8 +13,9 @@ use lib.Signed.{mag}
 use Rattle.rules.specs.declared.Size.{Size}
 use Rattle.rules.specs.Cells.{index, row-of, col-of}
 use Rattle.rules.proofs.Decided.{equation-decides}
-use Rattle.cells.specs.Storing.{Neighbour, At, Outside, InGrid, cells-at, Leads, FromPlace, LeadsBy}
 use Rattle.cells.specs.Neighbours.{Place}
+use Rattle.cells.specs.Storing.{Neighbour, At, Outside, InGrid, cells-at, Leads, FromPlace, LeadsBy}
+use Rattle.cells.specs.Interior.{SaysInterior}
 use Rattle.cells.specs.Ring.{Ring, Taken, contents, RingGood, SaysEmpty, NewRing, Pushed, Took}
 use Rattle.cells.proofs.Edges.{inside}
 
@@ -36,11 +37,15 @@ leads-decides {size} {row} {col} {a = a} {b} place p q =
     let at-col : col ≡ pos (col-of size u) = col-in .is-mag ∙ ap pos (sym (digits-mod (mag row) (col-in .less))) in
     tells-one a b (equation-decides (p .leads u at-row at-col) (q .leads u at-row at-col))
 
--- `nth_neighbour`, from the place of a cell.
+-- `nth_neighbour`.
 pub leads-by-decides : {size : Size} {place : Place} {i : ℕ} {a b : Neighbour} → FromPlace size place i → LeadsBy size place i a → LeadsBy size place i b → a ≡ b
-leads-by-decides {a = a} {b} from p q =
-    let (u, of, at) = from .cell in
-    tells-one a b (equation-decides (p .leads u of at) (q .leads u of at))
+leads-by-decides {a = a} {b} from p q = let (u, cell, is) = from .cell in tells-one a b (equation-decides (p .leads u cell is) (q .leads u cell is))
+
+-- `is_interior`.
+pub says-interior-decides : {size : Size} {u : ℕ} {a b : Bool} → SaysInterior size u a → SaysInterior size u b → a ≡ b
+says-interior-decides {a = true} p q = sym (q .told (p .says refl))
+says-interior-decides {a = false} {b = true} p q = p .told (q .says refl)
+says-interior-decides {a = false} {b = false} p q = refl
 
 -- ---- the ring
 

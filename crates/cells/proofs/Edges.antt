@@ -4,7 +4,7 @@ use mathlib.Core.Path.{_≡_, refl, ap, _∙_}
 use mathlib.Core.Bool.{Bool, true, false, cond}
 use mathlib.Core.List.{List, [], _∷_}
 use Prim.Native.Nat.{ℕ, zero, suc, _+_, _-_, _*_, _/_, _%_, _≤_, _<_}
-use native.Mathlib.Nat.{lt-of-lt-of-le, mul-zero, mod-lt, div-lt-iff-lt-mul}
+use native.Mathlib.Nat.{lt-of-lt-of-le, mul-zero, mod-lt, div-lt-iff-lt-mul, div-add-mod'}
 use native.Mathlib.Omega.{arith}
 use lib.Arith.{digits-lt}
 use lib.Dec.{T, leb, ltb, lt→ltb, le→leb}
@@ -171,14 +171,21 @@ module _ (size : Size) (bounds : Bounded size) (u : ℕ) (below : u < count size
   pub row-cast-fits : SFits w32 (pos (u / natAbs (read (size .cols))))
   row-cast-fits = rw (cast-is (bounds .cols-side)) (record { sfits = let most = bounds .rows-side .most in let less = row-less in omega arith })
 
-  pub col-cast-fits : SFits w32 (pos (u % natAbs (read (size .cols))))
-  col-cast-fits = rw (cast-is (bounds .cols-side)) (record { sfits = let most = bounds .cols-side .most in let less = col-less in omega arith })
+  -- The column is what the rows above leave of the index.
+  pub rows-above-most : u / natAbs (read (size .cols)) * natAbs (read (size .cols)) ≤ u
+  rows-above-most = let whole = div-add-mod' u (natAbs (read (size .cols))) in omega arith
+
+  rest-is : u - u / natAbs (read (size .cols)) * natAbs (read (size .cols)) ≡ col-of size u
+  rest-is = rw (cast-is (bounds .cols-side)) (let whole = div-add-mod' u (mag (size .cols)) in omega arith)
+
+  pub col-cast-fits : SFits w32 (pos (u - u / natAbs (read (size .cols)) * natAbs (read (size .cols))))
+  col-cast-fits = rw rest-is (record { sfits = let most = bounds .cols-side .most in let less = col-less in omega arith })
 
   pub row-cast : toZ w32 (u / natAbs (read (size .cols))) ≡ pos (row-of size u)
   row-cast = toZ-ofZ row-cast-fits ∙ rw (cast-is (bounds .cols-side))
 
-  pub col-cast : toZ w32 (u % natAbs (read (size .cols))) ≡ pos (col-of size u)
-  col-cast = toZ-ofZ col-cast-fits ∙ rw (cast-is (bounds .cols-side))
+  pub col-cast : toZ w32 (u - u / natAbs (read (size .cols)) * natAbs (read (size .cols))) ≡ pos (col-of size u)
+  col-cast = toZ-ofZ col-cast-fits ∙ ap pos rest-is
 
 module _ (size : Size) (u : ℕ) (cell : CellOf size u) where
   cell-bounds : Bounded size

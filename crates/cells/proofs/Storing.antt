@@ -1,5 +1,5 @@
 -- One neighbour: the place at an offset is tested against both edges, and what is in the grid is stored and counted. Assumes nothing.
-use mathlib.Core.Path.{_≡_, refl, sym, _∙_}
+use mathlib.Core.Path.{_≡_, refl, sym, ap, _∙_}
 use mathlib.Core.Bool.{Bool, true, false, cond, _&&_}
 use mathlib.Core.List.{List, [], _∷_}
 use Prim.Native.Nat.{ℕ, _+_}
@@ -143,6 +143,11 @@ pub leads-by :
 leads-by {size} i to = record {
   leads = λ u cell is. leads-at (getD offsets i []) (leads-by-step (step-at steps i) to) u (place-row size u cell is) (place-col size u cell is);
 }
+
+pub leads-from :
+    {size : Size} {place : Place} (i : ℕ) {there : Neighbour}
+    → (let offset = getD offsets i [] in Leads size (place .row) (place .col) (row-part offset) (col-part offset) there) → LeadsBy size place i there
+leads-from i to = record { leads = λ u cell is. leads-at (getD offsets i []) to u (ap (λ p. p .row) is) (ap (λ p. p .col) is) }
 
 module _
     {size : Size} {row col : ℤ} (place : InGrid size row col) (i : ℕ) {there : Neighbour}

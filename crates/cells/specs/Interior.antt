@@ -20,9 +20,10 @@ pub record Inner (end k : ℤ) : Type 0 where
   pub before : 0 < mag k
   pub behind : mag k + 1 < mag end
 
--- Where the answer is no, nothing is said: the general way serves every cell.
+-- The answer says whether it is so.
 pub record SaysInner (end k : ℤ) (answer : Bool) : Type 0 where
   pub says : answer ≡ true → Inner end k
+  pub told : Inner end k → answer ≡ true
 
 -- u is a cell with rows above and below it, and columns on both sides.
 pub record Interior (size : Size) (u : ℕ) : Type 0 where
@@ -32,5 +33,7 @@ pub record Interior (size : Size) (u : ℕ) : Type 0 where
   pub left : 0 < col-of size u
   pub right : col-of size u + 1 < mag (size .cols)
 
+-- The answer says whether u is such a cell.
 pub record SaysInterior (size : Size) (u : ℕ) (answer : Bool) : Type 0 where
   pub says : answer ≡ true → Interior size u
+  pub told : Interior size u → answer ≡ true

@@ -48,14 +48,15 @@ pub struct Place {
     pub col: i32,
 }
 
-// Where a cell stands.
+// Where a cell stands. The column is what is left of the index, so that the compiler sees the index again where one is made of both.
 pub fn place_of(size: Size, cell: u32) -> Place
     requires { ⌜ CellOf size cell ⌝ }
     ensures { λ r. ⌜ r ≡ place-of size cell ⌝ }
 {
     let cols = size.cols as u32;
-    let row = (cell / cols) as i32;
-    let col = (cell % cols) as i32;
+    let above = cell / cols;
+    let row = above as i32;
+    let col = (cell - above * cols) as i32;
     Place { row, col }
 }
 
@@ -156,25 +157,23 @@ pub fn is_interior(size: Size, cell: u32) -> bool
     is_inner(size.rows, place.row) && is_inner(size.cols, place.col)
 }
 
-// The neighbours of a cell at no edge: all eight are there, so that no more is tested.
+// The neighbours of a cell at no edge: all eight are there, the edges have been tested, so that no more is.
 pub fn interior_neighbours(size: Size, cell: u32) -> Neighbours
     requires { ⌜ Interior size cell ⌝ }
     ensures { λ r. ⌜ Lists size cell r ⌝ }
 {
-    let cols = size.cols as u32;
-    let below = cell + cols;
-    let above = cell - cols;
+    let place = place_of(size, cell);
+    let mut cells: [u32; 8] = [0; 8];
+    let mut i: usize = 0;
+    while i < 8 {
+        let offset = OFFSETS[i];
+        let row = place.row + offset[0];
+        let col = place.col + offset[1];
+        cells[i] = index(size, row, col);
+        i += 1;
+    }
     Neighbours {
-        cells: [
-            cell + 1,
-            cell - 1,
-            below,
-            above,
-            below + 1,
-            above + 1,
-            below - 1,
-            above - 1,
-        ],
+        cells,
         straight: 4,
         count: 8,
     }

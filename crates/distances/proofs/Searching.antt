@@ -24,8 +24,7 @@ use Rattle.calls.proofs.Shapes.{shaped}
 use Rattle.calls.proofs.Promises.{still-zero}
 use Rattle.spread.specs.declared.search.Rule.the-variants.{Plain, Obstacles, HalfSum}
 use Rattle.spread.specs.declared.search.Search.{Search}
-use Rattle.spread.specs.Nets.{Grids, carries, reads-times}
-use Rattle.spread.specs.Steps.{avoids}
+use Rattle.spread.specs.Nets.{avoids, Grids, carries, reads-times}
 use Rattle.spread.specs.Promise.{grids, Spreads, Spread}
 use Rattle.spread.proofs.Agrees.{plain-agrees, obstacles-agrees, half-sum-agrees}
 use Rattle.spread.proofs.Results.{WithinSquare, spreads-where, distances-are}

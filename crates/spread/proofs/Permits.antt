@@ -8,7 +8,6 @@ use native.Mathlib.Omega.{arith}
 use borrow.Author.Tests.{ne-eqb}
 use lib.Dec.{T, eqb}
 use lib.IntN.{natAbs}
-use lib.Ieee.{Float}
 use lib.ListN.{getD}
 use lib.Signed.{mag, nonNeg}
 use mir.Syntax.{w32}
@@ -16,6 +15,7 @@ use mir.Val.{Fits}
 use Rattle.cells.proofs.Bounds.{Bounded, bounded, read, cast-fits, cast-is}
 use Rattle.cells.proofs.Edges.{index-below, row-less, col-less, cols-cast-some}
 use Rattle.fifo.proofs.Lists.{same-or-not}
+use Rattle.rules.specs.declared.BarrierDiagonals.{BarrierDiagonals}
 use Rattle.rules.specs.declared.BarrierDiagonals.the-variants.{Include, Exclude}
 use Rattle.rules.specs.declared.Size.{Size}
 use Rattle.rules.specs.Sizes.{Grid, grid, count}
@@ -23,9 +23,8 @@ use Rattle.rules.specs.Cells.{index, row-of, col-of}
 use Rattle.rules.specs.Distances.{obstacle, free, blocked}
 use Rattle.rules.proofs.Tests.{opposite}
 use Rattle.spread.specs.declared.search.Rule.{Rule}
-use Rattle.spread.specs.declared.search.Rule.the-variants.{Plain, Obstacles, HalfSum, Closest, ByTime, FromMaskCell, FromAmount}
-use Rattle.spread.specs.Nets.{reads-times}
-use Rattle.spread.specs.Steps.{formula, avoids, may-straight, may-diagonal, formula-number, avoided-number, formula-by, may-enter, blocked-by, may-step}
+use Rattle.spread.specs.Nets.{by-step, ways, avoids, reads-times}
+use Rattle.spread.specs.Steps.{may-straight, may-diagonal, avoided-with, avoided-number, may-enter, blocked-by, may-step}
 use Rattle.spread.specs.Steps.{SaysFree, Pair, Crossed, Among, MayAsk}
 
 -- ---- obstacles
@@ -92,61 +91,35 @@ permit true false = refl
 permit false true = refl
 permit false false = refl
 
--- What may be entered straight, and diagonally.
-straight-by : (rule : Rule) (obstacles : Grid ℕ) (u v : ℕ) → may-straight rule obstacles v ≡ may-step (avoided-number rule) false obstacles u v
-straight-by Plain obstacles u v = refl
-straight-by (Obstacles Include) obstacles u v = refl
-straight-by (Obstacles Exclude) obstacles u v = refl
-straight-by HalfSum obstacles u v = refl
-straight-by Closest obstacles u v = refl
-straight-by ByTime obstacles u v = refl
-straight-by (FromMaskCell origin) obstacles u v = refl
-straight-by (FromAmount origin) obstacles u v = refl
+-- What may be entered straight, and diagonally, where obstacles are avoided or not.
+straight-by : (avoiding : Bool) (diagonals : BarrierDiagonals) (obstacles : Grid ℕ) (u v : ℕ) → cond avoiding (free obstacles v) true ≡ may-step (cond avoiding (avoided-with diagonals) 0) false obstacles u v
+straight-by true Include obstacles u v = refl
+straight-by true Exclude obstacles u v = refl
+straight-by false diagonals obstacles u v = refl
 
-diagonal-by : (rule : Rule) (obstacles : Grid ℕ) (u v : ℕ) → may-diagonal rule obstacles u v ≡ may-step (avoided-number rule) true obstacles u v
-diagonal-by Plain obstacles u v = refl
-diagonal-by (Obstacles Include) obstacles u v = permit (free obstacles v) false
-diagonal-by (Obstacles Exclude) obstacles u v = permit (free obstacles v) (blocked Exclude obstacles u v)
-diagonal-by HalfSum obstacles u v = refl
-diagonal-by Closest obstacles u v = refl
-diagonal-by ByTime obstacles u v = refl
-diagonal-by (FromMaskCell origin) obstacles u v = refl
-diagonal-by (FromAmount origin) obstacles u v = refl
+diagonal-by :
+    (avoiding : Bool) (diagonals : BarrierDiagonals) (obstacles : Grid ℕ) (u v : ℕ)
+    → cond avoiding (free obstacles v && not (blocked diagonals obstacles u v)) true ≡ may-step (cond avoiding (avoided-with diagonals) 0) true obstacles u v
+diagonal-by true Include obstacles u v = permit (free obstacles v) false
+diagonal-by true Exclude obstacles u v = permit (free obstacles v) (blocked Exclude obstacles u v)
+diagonal-by false diagonals obstacles u v = refl
 
 pub permitted-by :
     (rule : Rule) (diagonally : Bool) (obstacles : Grid ℕ) (u v : ℕ)
     → cond diagonally (may-diagonal rule obstacles u v) (may-straight rule obstacles v) ≡ may-step (avoided-number rule) diagonally obstacles u v
-permitted-by rule true = diagonal-by rule
-permitted-by rule false = straight-by rule
-
--- How it adds.
-pub formed-by : (rule : Rule) (times : Grid Float) (u : ℕ) (s : Float) (v : ℕ) (d : Float) → formula-by (formula-number rule) times u s v d ≡ formula rule times u s v d
-formed-by Plain times u s v d = refl
-formed-by (Obstacles diagonals) times u s v d = refl
-formed-by HalfSum times u s v d = refl
-formed-by Closest times u s v d = refl
-formed-by ByTime times u s v d = refl
-formed-by (FromMaskCell origin) times u s v d = refl
-formed-by (FromAmount origin) times u s v d = refl
+permitted-by rule true = diagonal-by (avoids rule) (ways rule .diagonals)
+permitted-by rule false = straight-by (avoids rule) (ways rule .diagonals)
 
 -- Where it reads a grid.
 pub avoids-by : (rule : Rule) → eqb (avoided-number rule) 0 ≡ false → avoids rule ≡ true
-avoids-by Plain e = sym e
-avoids-by (Obstacles diagonals) e = refl
-avoids-by HalfSum e = sym e
-avoids-by Closest e = sym e
-avoids-by ByTime e = sym e
-avoids-by (FromMaskCell origin) e = sym e
-avoids-by (FromAmount origin) e = sym e
+avoids-by rule = some-avoided (avoids rule)
+  where
+    some-avoided : (avoiding : Bool) → eqb (cond avoiding (avoided-with (ways rule .diagonals)) 0) 0 ≡ false → avoiding ≡ true
+    some-avoided true e = refl
+    some-avoided false e = sym e
 
-pub reads-by : (rule : Rule) → eqb (formula-number rule) 0 ≡ false → reads-times rule ≡ true
-reads-by Plain e = sym e
-reads-by (Obstacles diagonals) e = sym e
-reads-by HalfSum e = refl
-reads-by Closest e = sym e
-reads-by ByTime e = refl
-reads-by (FromMaskCell origin) e = refl
-reads-by (FromAmount origin) e = refl
+pub reads-by : (rule : Rule) → eqb (ways rule .formula) by-step ≡ false → reads-times rule ≡ true
+reads-by rule = ap not
 
 -- ---- the tests by number
 

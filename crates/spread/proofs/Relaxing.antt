@@ -12,12 +12,11 @@ use Rattle.rules.specs.Values.{Carried, nearer}
 use Rattle.rules.specs.Sizes.{grid}
 use Rattle.spread.specs.declared.search.Search.{Search}
 use Rattle.spread.specs.declared.relax.Left.{Left}
-use Rattle.spread.specs.Nets.{sized, carries, labels-of}
-use Rattle.spread.specs.Steps.{formula, entering, labelled, formula-number, formula-by, length-of}
+use Rattle.spread.specs.Nets.{ways, sized, carries, labels-of}
+use Rattle.spread.specs.Steps.{formula, entering, labelled, formula-by, length-of}
 use Rattle.spread.specs.Waiting.{Waiting, Joining, Joined}
 use Rattle.spread.specs.Buffers.{Buffers, buffers, Holds, Does, storing, relaxing, carried-on}
 use Rattle.spread.specs.Loop.{left-label, Trying, Storing, Stored}
-use Rattle.spread.proofs.Permits.{formed-by}
 use Rattle.spread.proofs.Labels.{label-held, labels-stored, length-carried-on, not-carried-on}
 
 module _ {search : Search} {v : ℕ} {distances carried : List Float} {marks queue : List ℕ} {ring : Ring} (tries : Trying search v (buffers distances carried marks queue ring)) where
@@ -111,12 +110,11 @@ module _ {search : Search} {v : ℕ} {b : Buffers} (tries : Trying search v b) {
       (store-does tries d x (stored .carried-is ∙ ap (λ t. cond t (set (b .carried) v x) (b .carried)) numbered) (stored .joined))
 
 pub formed-as :
-    (search : Search) (times : List Float) {n : ℕ} → n ≡ formula-number (search .rule)
+    (search : Search) (times : List Float) {n : ℕ} → n ≡ ways (search .rule) .formula
     → (diagonally : Bool) {step : Float} → step ≡ length-of diagonally
     → (u v : ℕ) (d : Float) {new : Float} → new ≡ formula-by n (grid (search .size) times) u step v d
     → new ≡ formula (search .rule) (sized search times) u (length-of diagonally) v d
 formed-as search times numbered diagonally {step} long u v d formed =
     formed
     ∙ ap (λ m. formula-by m (grid (search .size) times) u step v d) numbered
-    ∙ ap (λ s. formula-by (formula-number (search .rule)) (grid (search .size) times) u s v d) long
-    ∙ formed-by (search .rule) (sized search times) u (length-of diagonally) v d
+    ∙ ap (λ s. formula-by (ways (search .rule) .formula) (grid (search .size) times) u s v d) long

@@ -9,8 +9,7 @@ use Rattle.fifo.specs.Machine.{table, finish}
 use Rattle.fifo.proofs.Ranges.{map-table, table-reads}
 use Rattle.rules.specs.Sizes.{count}
 use Rattle.spread.specs.declared.search.Search.{Search}
-use Rattle.spread.specs.Nets.{Grids, net-of, carries, labels-of}
-use Rattle.spread.specs.Steps.{avoids}
+use Rattle.spread.specs.Nets.{avoids, Grids, net-of, carries, labels-of}
 use Rattle.spread.specs.First.{Inputs}
 use Rattle.spread.specs.Begin.{Lengths}
 use Rattle.spread.specs.Promise.{Spreads, Spread}

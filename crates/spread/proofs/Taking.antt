@@ -13,8 +13,7 @@ use Rattle.cells.specs.Ring.{contents, none, HasCell, SaysEmpty, Took}
 use Rattle.cells.specs.declared.neighbours.Neighbours.{Neighbours}
 use Rattle.cells.specs.declared.ring.Ring.{Ring}
 use Rattle.cells.specs.declared.ring.Taken.{Taken}
-use Rattle.cells.proofs.Interior.{around-lists}
-use Rattle.cells.proofs.NeighbourArray.{lists-decided}
+use Rattle.cells.proofs.Interior.{eight-around}
 use Rattle.fifo.specs.Machine.{Net, scan}
 use Rattle.fifo.proofs.Induction.{awaiting, take-is-scan}
 use Rattle.fifo.proofs.Lists.{true-or-false, empty-or-not}
@@ -146,10 +145,10 @@ module _
           module _ (inner : Interior (search .size) (taken .cell)) {near : Neighbours} (lists : Lists (search .size) (taken .cell) near) where
             -- There are eight of them, four of them straight.
             four : near .straight ≡ 4
-            four = ap (λ n. n .straight) (lists-decided lists (around-lists (search .size) (taken .cell) inner))
+            four = eight-around inner lists .0
 
             eight : near .count ≡ 8
-            eight = ap (λ n. n .count) (lists-decided lists (around-lists (search .size) (taken .cell) inner))
+            eight = eight-around inner lists .1
 
             pub scans : Scanning search by ground (left .cell) (near .cells) 4 8 (buffers distances carried marks′ queue (taken .ring))
             scans = record {

@@ -20,8 +20,8 @@ use Rattle.rules.specs.Values.{Carried}
 use Rattle.spread.specs.declared.search.Search.{Search}
 use Rattle.spread.specs.declared.relax.Left.{Left}
 use Rattle.spread.specs.declared.take.TakenCell.{TakenCell}
-use Rattle.spread.specs.Nets.{carries, reads-times, labels-of}
-use Rattle.spread.specs.Steps.{Terrain, paired, labelled, avoids, Numbers, numbers-of, straight-steps, diagonal-steps, Follows}
+use Rattle.spread.specs.Nets.{carries, avoids, reads-times, labels-of}
+use Rattle.spread.specs.Steps.{Terrain, paired, labelled, Numbers, numbers-of, straight-steps, diagonal-steps, Follows}
 use Rattle.spread.specs.Waiting.{Unmarked, Joining, Joined}
 use Rattle.spread.specs.Buffers.{Buffers, Good, Holds}
 use Rattle.spread.specs.Begin.{Lengths}

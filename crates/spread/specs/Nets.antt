@@ -4,9 +4,12 @@
 use mathlib.Core.Bool.{Bool, true, false, not, cond, _&&_}
 use mathlib.Core.List.{List}
 use Prim.Native.Nat.{ℕ}
+use lib.Dec.{eqb}
 use lib.ListN.{getD}
 use lib.Ieee.{Float, nan}
 use Rattle.fifo.specs.Machine.{Net, table}
+use Rattle.rules.specs.declared.BarrierDiagonals.{BarrierDiagonals}
+use Rattle.rules.specs.declared.BarrierDiagonals.the-variants.{Include}
 use Rattle.rules.specs.Sizes.{Grid, grid, count}
 use Rattle.rules.specs.Cells.{moves}
 use Rattle.rules.specs.Distances.{plus-step, plus-half-sum, plain, free, blocked, with-obstacles, travel}
@@ -15,6 +18,56 @@ use Rattle.rules.specs.Sums.{plus-time-or-quarter, from-mask-cell, from-amount}
 use Rattle.spread.specs.declared.search.Rule.{Rule}
 use Rattle.spread.specs.declared.search.Rule.the-variants.{Plain, Obstacles, HalfSum, Closest, ByTime, FromMaskCell, FromAmount}
 use Rattle.spread.specs.declared.search.Search.{Search}
+
+-- ---- what a rule is to the loop
+
+-- The formulas by number: d + s; d + (s / 2) * (a + b); d + s * b; and the same where a nodata time counts as the largest f32 divided by 4.
+abbrev pub by-step : ℕ
+by-step = 0
+
+abbrev pub by-half-sum : ℕ
+by-half-sum = 1
+
+abbrev pub by-time : ℕ
+by-time = 2
+
+abbrev pub by-time-or-quarter : ℕ
+by-time-or-quarter = 3
+
+-- By which formula a search adds; whether it avoids obstacles, and then which diagonals between them are open to it; whether a value goes along; and
+-- whether it starts from targets, or from one cell.
+pub record Ways : Type 0 where
+  pub formula : ℕ
+  pub avoiding : Bool
+  pub diagonals : BarrierDiagonals
+  pub carrying : Bool
+  pub targeted : Bool
+
+-- The one table of the rules: all that the loop knows of one is read off its row.
+abbrev pub ways : Rule → Ways
+ways Plain = record { formula = by-step; avoiding = false; diagonals = Include; carrying = false; targeted = true }
+ways (Obstacles diagonals) = record { formula = by-step; avoiding = true; diagonals = diagonals; carrying = false; targeted = true }
+ways HalfSum = record { formula = by-half-sum; avoiding = false; diagonals = Include; carrying = false; targeted = true }
+ways Closest = record { formula = by-step; avoiding = false; diagonals = Include; carrying = true; targeted = true }
+ways ByTime = record { formula = by-time; avoiding = false; diagonals = Include; carrying = true; targeted = true }
+ways (FromMaskCell origin) = record { formula = by-half-sum; avoiding = false; diagonals = Include; carrying = false; targeted = false }
+ways (FromAmount origin) = record { formula = by-time-or-quarter; avoiding = false; diagonals = Include; carrying = false; targeted = false }
+
+-- Whether a value goes along.
+abbrev pub carries : Rule → Bool
+carries rule = ways rule .carrying
+
+-- Whether a rule reads the grid of targets, that of obstacles, and that of times.
+abbrev pub reads-targets : Rule → Bool
+reads-targets rule = ways rule .targeted
+
+abbrev pub avoids : Rule → Bool
+avoids rule = ways rule .avoiding
+
+abbrev pub reads-times : Rule → Bool
+reads-times rule = not (eqb (ways rule .formula) by-step)
+
+-- ---- the nets
 
 -- The grids that a search reads; a rule reads only those that it has.
 pub record Grids : Type 0 where
@@ -79,35 +132,6 @@ net-by (FromAmount origin) search grids =
 -- The net of a search is that of its rule.
 unfoldable pub net-of : Search → Grids → Net Carried
 net-of search grids = net-by (search .rule) search grids
-
--- Whether a value goes along.
-abbrev pub carries : Rule → Bool
-carries Plain = false
-carries (Obstacles diagonals) = false
-carries HalfSum = false
-carries Closest = true
-carries ByTime = true
-carries (FromMaskCell origin) = false
-carries (FromAmount origin) = false
-
--- Whether a rule reads the grid of targets, and that of times.
-abbrev pub reads-targets : Rule → Bool
-reads-targets Plain = true
-reads-targets (Obstacles diagonals) = true
-reads-targets HalfSum = true
-reads-targets Closest = true
-reads-targets ByTime = true
-reads-targets (FromMaskCell origin) = false
-reads-targets (FromAmount origin) = false
-
-abbrev pub reads-times : Rule → Bool
-reads-times Plain = false
-reads-times (Obstacles diagonals) = false
-reads-times HalfSum = true
-reads-times Closest = false
-reads-times ByTime = true
-reads-times (FromMaskCell origin) = true
-reads-times (FromAmount origin) = true
 
 -- The labels that two buffers hold.
 unfoldable pub labels-of : Search → List Float → List Float → List Carried

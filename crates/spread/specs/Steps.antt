@@ -8,6 +8,7 @@ use lib.Ieee.{Float, nan}
 use lib.ListN.{length}
 use Rattle.binary32.specs.Steps.{straight, diagonal}
 use Rattle.fifo.specs.Machine.{Net}
+use Rattle.rules.specs.declared.BarrierDiagonals.{BarrierDiagonals}
 use Rattle.rules.specs.declared.BarrierDiagonals.the-variants.{Include, Exclude}
 use Rattle.rules.specs.declared.Size.{Size}
 use Rattle.rules.specs.Sizes.{Grid, grid, in-bounds, count}
@@ -16,9 +17,8 @@ use Rattle.rules.specs.Distances.{plus-step, plus-half-sum, free, blocked}
 use Rattle.rules.specs.Values.{Carried, nearer, carrying, plus-time}
 use Rattle.rules.specs.Sums.{plus-time-or-quarter}
 use Rattle.spread.specs.declared.search.Rule.{Rule}
-use Rattle.spread.specs.declared.search.Rule.the-variants.{Plain, Obstacles, HalfSum, Closest, ByTime, FromMaskCell, FromAmount}
 use Rattle.spread.specs.declared.search.Search.{Search}
-use Rattle.spread.specs.Nets.{sized, carries}
+use Rattle.spread.specs.Nets.{by-step, by-half-sum, by-time, by-time-or-quarter, ways, sized, carries, avoids}
 
 -- What lies in the way: the obstacles, and the times of the cells.
 pub record Terrain : Type 0 where
@@ -28,15 +28,17 @@ pub record Terrain : Type 0 where
 abbrev pub terrain : List ℕ → List Float → Terrain
 terrain obstacles times = record { obstacles = obstacles; times = times }
 
--- The candidate for a cell v that is entered from the cell u, over a step of length s from distance d.
+-- The candidate for a cell v that is entered from the cell u, over a step of length s from distance d, by the number of a formula. Any other
+-- number is the last's.
+abbrev pub formula-by : ℕ → Grid Float → ℕ → Float → ℕ → Float → Float
+formula-by n times u s v d =
+    cond (eqb n by-step) (plus-step s v d)
+    (cond (eqb n by-half-sum) (plus-half-sum times u s v d)
+    (cond (eqb n by-time) (plus-time times s v d) (plus-time-or-quarter times s v d)))
+
+-- The same by the rule.
 abbrev pub formula : Rule → Grid Float → ℕ → Float → ℕ → Float → Float
-formula Plain times u = plus-step
-formula (Obstacles diagonals) times u = plus-step
-formula HalfSum times u = plus-half-sum times u
-formula Closest times u = plus-step
-formula ByTime times u = plus-time times
-formula (FromMaskCell origin) times u = plus-half-sum times u
-formula (FromAmount origin) times u = plus-time-or-quarter times
+formula rule = formula-by (ways rule .formula)
 
 -- The same of labels: the value goes along.
 abbrev pub entering : Search → List Float → ℕ → Float → ℕ → Carried → Carried
@@ -49,57 +51,22 @@ paired carrying distance value = (distance, cond carrying value nan)
 abbrev pub labelled : Rule → Float → Float → Carried
 labelled rule = paired (carries rule)
 
--- Whether a rule reads the grid of obstacles.
-abbrev pub avoids : Rule → Bool
-avoids Plain = false
-avoids (Obstacles diagonals) = true
-avoids HalfSum = false
-avoids Closest = false
-avoids ByTime = false
-avoids (FromMaskCell origin) = false
-avoids (FromAmount origin) = false
-
 -- Whether v may be entered by a straight step, and by a diagonal one from u.
 abbrev pub may-straight : Rule → Grid ℕ → ℕ → Bool
-may-straight Plain obstacles v = true
-may-straight (Obstacles diagonals) obstacles v = free obstacles v
-may-straight HalfSum obstacles v = true
-may-straight Closest obstacles v = true
-may-straight ByTime obstacles v = true
-may-straight (FromMaskCell origin) obstacles v = true
-may-straight (FromAmount origin) obstacles v = true
+may-straight rule obstacles v = cond (avoids rule) (free obstacles v) true
 
 abbrev pub may-diagonal : Rule → Grid ℕ → ℕ → ℕ → Bool
-may-diagonal Plain obstacles u v = true
-may-diagonal (Obstacles diagonals) obstacles u v = free obstacles v && not (blocked diagonals obstacles u v)
-may-diagonal HalfSum obstacles u v = true
-may-diagonal Closest obstacles u v = true
-may-diagonal ByTime obstacles u v = true
-may-diagonal (FromMaskCell origin) obstacles u v = true
-may-diagonal (FromAmount origin) obstacles u v = true
+may-diagonal rule obstacles u v = cond (avoids rule) (free obstacles v && not (blocked (ways rule .diagonals) obstacles u v)) true
 
 -- ---- what a rule permits and how it adds, by numbers, which the loop has as constants
 
--- 0: d + s. 1: d + (s / 2) * (a + b). 2: d + s * b. 3: the same, where a nodata time counts as the largest f32 divided by 4.
-abbrev pub formula-number : Rule → ℕ
-formula-number Plain = 0
-formula-number (Obstacles diagonals) = 0
-formula-number HalfSum = 1
-formula-number Closest = 0
-formula-number ByTime = 2
-formula-number (FromMaskCell origin) = 1
-formula-number (FromAmount origin) = 3
+-- What is avoided. 0: nothing. 1: obstacles. 2: these, and diagonals between two of them.
+abbrev pub avoided-with : BarrierDiagonals → ℕ
+avoided-with Include = 1
+avoided-with Exclude = 2
 
--- 0: nothing. 1: obstacles. 2: these, and diagonals between two of them.
 abbrev pub avoided-number : Rule → ℕ
-avoided-number Plain = 0
-avoided-number (Obstacles Include) = 1
-avoided-number (Obstacles Exclude) = 2
-avoided-number HalfSum = 0
-avoided-number Closest = 0
-avoided-number ByTime = 0
-avoided-number (FromMaskCell origin) = 0
-avoided-number (FromAmount origin) = 0
+avoided-number rule = cond (avoids rule) (avoided-with (ways rule .diagonals)) 0
 
 -- The number of the formula, the number of what is avoided, and whether a value goes along.
 pub record Numbers : Type 0 where
@@ -112,21 +79,14 @@ numbers formula avoided carrying = record { formula = formula; avoided = avoided
 
 -- What the loop is given for a rule.
 abbrev pub numbers-of : Rule → Numbers
-numbers-of rule = numbers (formula-number rule) (avoided-number rule) (carries rule)
+numbers-of rule = numbers (ways rule .formula) (avoided-number rule) (carries rule)
 
 -- What it is given where the formula is d + (s / 2) * (a + b), and where it is the last: nothing is avoided, and nothing goes along.
 abbrev pub half-sum-numbers : Numbers
-half-sum-numbers = numbers 1 0 false
+half-sum-numbers = numbers by-half-sum 0 false
 
 abbrev pub time-or-quarter-numbers : Numbers
-time-or-quarter-numbers = numbers 3 0 false
-
--- The candidate, by the number of the formula.
-abbrev pub formula-by : ℕ → Grid Float → ℕ → Float → ℕ → Float → Float
-formula-by n times u s v d =
-    cond (eqb n 0) (plus-step s v d)
-    (cond (eqb n 1) (plus-half-sum times u s v d)
-    (cond (eqb n 2) (plus-time times s v d) (plus-time-or-quarter times s v d)))
+time-or-quarter-numbers = numbers by-time-or-quarter 0 false
 
 -- Whether v may be entered at all, by the number of what is avoided.
 abbrev pub may-enter : ℕ → Grid ℕ → ℕ → Bool

@@ -141,5 +141,6 @@ pub fn first_label(
     if from == FROM_CLOSEST_TARGETS {
         return from_target(byte, one_nan(values[at]), cap);
     }
+    // FROM_VALUED_TARGETS is the last.
     from_valued_target(byte, values[at], cap)
 }

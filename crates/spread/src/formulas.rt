@@ -67,5 +67,6 @@ pub fn candidate(formula: u8, times: &[f32], left: Left, step: f32, cell: u32) -
     if formula == PLUS_TIME {
         return plus_time(left.distance, step, times[to]);
     }
+    // PLUS_TIME_OR_QUARTER is the last.
     plus_time(left.distance, step, time_or_quarter(times[to]))
 }

@@ -57,6 +57,7 @@ pub fn may_enter(avoided: u8, obstacles: &[u8], to: u32) -> bool
     if avoided == NOTHING {
         return true;
     }
+    // OBSTACLES and BETWEEN_OBSTACLES.
     is_free(obstacles, to)
 }
 

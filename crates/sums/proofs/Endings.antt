@@ -11,8 +11,8 @@ use Rattle.fifo.proofs.Lists.{true-or-false}
 use Rattle.rules.specs.Sizes.{count}
 use Rattle.rules.specs.Values.{Carried}
 use Rattle.spread.specs.declared.search.Search.{Search}
-use Rattle.spread.specs.Nets.{carries, reads-targets}
-use Rattle.spread.specs.Steps.{terrain, avoids}
+use Rattle.spread.specs.Nets.{avoids, carries, reads-targets}
+use Rattle.spread.specs.Steps.{terrain}
 use Rattle.spread.specs.Buffers.{Buffers}
 use Rattle.spread.specs.First.{net-on}
 use Rattle.spread.specs.Begin.{Begins, BeganTo}

@@ -29,8 +29,7 @@ use Rattle.calls.proofs.Untouched.{judged-writes, buffer-untouched}
 use Rattle.calls.proofs.Promises.{promised-refused, still-zero}
 use Rattle.spread.specs.declared.search.Rule.the-variants.{Closest, ByTime}
 use Rattle.spread.specs.declared.search.Search.{Search}
-use Rattle.spread.specs.Nets.{Grids, carries, reads-times}
-use Rattle.spread.specs.Steps.{avoids}
+use Rattle.spread.specs.Nets.{avoids, Grids, carries, reads-times}
 use Rattle.spread.specs.Promise.{grids, Spread}
 use Rattle.spread.proofs.Agrees.{closest-same, by-time-agrees, by-time-labels}
 use Rattle.spread.proofs.Results.{WithinSquare, spreads-where, values-are}

@@ -27,7 +27,11 @@ returns c =
     interior-said (s .args .size) (s .args .cell) (s .pre) (found .place-of .ensures) (tested .before .is-inner .ensures) (tested .if1 .taken) (c .is-inner2 .ensures)
 
 returns-2 : tie.Need-returns-2
-returns-2 c = not-interior (c .if1 .left)
+returns-2 c =
+    let tested = c .before in
+    let found = tested .before .before .before in
+    let s = found .before in
+    not-interior (s .args .size) (s .args .cell) (s .pre) (found .place-of .ensures) (tested .is-inner .ensures) (c .if1 .left)
 
 pub is-interior-spec : {M : Type 1} → statement M
 is-interior-spec = tie.close (tie.spec place-of-requires is-inner-requires is-inner-requires-2 returns returns-2)
