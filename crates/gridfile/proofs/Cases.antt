@@ -149,6 +149,14 @@ bad-files =
     plain 8 times ∷
     plain 1 (targets ++ obstacles) ∷
     plain 8 (targets ++ times ++ values) ∷
+    -- another grid in the place of one of them
+    plain 1 (field-bytes 0x05 (1 ∷ 0 ∷ [])) ∷
+    plain 2 (targets ++ times) ∷
+    plain 3 (targets ++ obstacles) ∷
+    plain 3 (targets ++ values) ∷
+    plain 4 (targets ++ times) ∷
+    plain 5 (targets ++ obstacles ++ values) ∷
+    plain 8 (targets ++ times) ∷
     plain 1 (targets ++ field-bytes 0x08 []) ∷
     (field-bytes 0x00 [] ++ plain 1 targets) ∷
     -- another tag in the place of 01, 02 or 03

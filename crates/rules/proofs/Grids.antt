@@ -11,7 +11,7 @@ use Rattle.binary32.specs.Numbers.{plus-zero, one}
 use Rattle.rules.specs.declared.BarrierDiagonals.the-variants.{Include, Exclude}
 use Rattle.rules.specs.Numbers.{infinity, whole}
 use Rattle.rules.specs.Sizes as sizes
-use Rattle.rules.specs.Sizes.{Size, Grid, Spacing, in-bounds, Lent, Refusal, number, number-at, Outcome, refused, accepted}
+use Rattle.rules.specs.Sizes.{Size, Grid, Spacing, in-bounds, Lent, Refusal, number, number-at, Outcome, refused, accepted, passes, stops, or-else}
 use Rattle.rules.specs.Computing.{rules-computing}
 use Rattle.rules.specs.Distances.{outcome-1, outcome-2, outcome-3}
 use Rattle.rules.specs.Values.{outcome-4, outcome-5, outcome-6}
@@ -287,6 +287,8 @@ more =
     (outcome-7 (row (1 ∷ 0 ∷ [])) (row (plus-zero ∷ plus-zero ∷ [])) (row (whole 7 ∷ whole 9 ∷ [])) (whole 3) false (lent 2 4), takes-and-answer 2 (whole 16 ∷ plus-zero ∷ [])) ∷
     -- 255 is an obstacle
     (outcome-2 (row (1 ∷ 0 ∷ [])) (row (0 ∷ 255 ∷ [])) (spacing plus-zero) Include (lent 2 1), takes-and-answer 1 (plus-zero ∷ infinity ∷ [])) ∷
+    -- no diagonal leads onto an obstacle
+    (outcome-2 (grid 2 2 (1 ∷ 0 ∷ 0 ∷ 0 ∷ [])) (grid 2 2 (0 ∷ 0 ∷ 0 ∷ 1 ∷ [])) (spacing plus-zero) Include (lent 4 1), takes-and-answer 3 (plus-zero ∷ whole 1 ∷ whole 1 ∷ infinity ∷ [])) ∷
     -- any other nonzero byte is a target
     (outcome-1 (row (254 ∷ 0 ∷ 2 ∷ [])) (spacing infinity) (lent 3 1), takes-and-answer 3 (plus-zero ∷ whole 1 ∷ plus-zero ∷ [])) ∷
     -- the cells beside a diagonal that leads to the left: both blocked in two rows of 2 and of 3, then one of them
@@ -345,6 +347,12 @@ pub totals-of-takes :
     ≡ 18446744073709551614 ∷ 18446744073709551615 ∷ 18446744073709551615 ∷ []
 unfolding total-takes
 totals-of-takes = refl
+
+-- Of two judgements the first that refuses.
+pub first-of-two :
+    or-else passes passes ∷ or-else passes (stops (number 5)) ∷ or-else (stops (number 4)) passes ∷ or-else (stops (number 4)) (stops (number 5)) ∷ []
+    ≡ passes ∷ stops (number 5) ∷ stops (number 4) ∷ stops (number 4) ∷ []
+first-of-two = refl
 
 -- ---- the bounds
 
