@@ -10,7 +10,7 @@ use crate::times::Way;
 #[derive(Debug, PartialEq)]
 pub struct Group {
     pub name: &'static str,
-    /// What both Rusts find. Warm where cold pages would be much of their time, which would be easy on us.
+    /// What both Rusts find: warm where they were so in the runs that the goals were set by.
     pub memory: Memory,
     /// Against the Rust as cargo builds it.
     pub cargo: f64,
