@@ -2,35 +2,40 @@
 use case::Search::*;
 
 use crate::plan::{Plan, Table};
+use crate::served::Memory::{self, Cold, Warm};
+use crate::sides::Units;
 use crate::times::Way;
 
 /// Grids that have the same goals.
 #[derive(Debug, PartialEq)]
 pub struct Group {
     pub name: &'static str,
-    /// The Rust as cargo builds it: cold, but for narrow grids, whose small blocks glibc mostly keeps by itself.
-    pub rust: Way,
+    /// What both Rusts find: warm where they were so in the runs that the goals were set by.
+    pub memory: Memory,
+    /// Against the Rust as cargo builds it.
     pub cargo: f64,
     /// Against the Rust in one codegen unit.
     pub one_unit: Option<f64>,
 }
 
-pub const GROUPS: [Group; 9] = [
-    square("1", 0.42, Some(1.0)),
-    square("1, one cell in a hundred a target", 0.55, Some(1.0)),
-    square("2", 0.36, Some(1.0)),
-    square("3, 4 and 5", 0.4, Some(1.0)),
-    square("6", 0.55, Some(1.0)),
-    square("7, everything reached", 0.5, Some(1.0)),
-    square("7, ground in pieces", 1.0, Some(1.3)),
-    square("8, until it clears only what it touches", 1.0, None),
-    Group { name: "narrow, beside the warm Rust", rust: Way::WARM, cargo: 1.0, one_unit: None },
-];
-
-/// Square grids of a search.
-const fn square(name: &'static str, cargo: f64, one_unit: Option<f64>) -> Group {
-    Group { name, rust: Way::RUST, cargo, one_unit }
+impl Group {
+    /// A build of the Rust with the group's memory.
+    pub fn rust(&self, units: Units) -> Way {
+        Way::Rust(units, self.memory)
+    }
 }
+
+pub const GROUPS: [Group; 9] = [
+    Group { name: "1", memory: Cold, cargo: 0.42, one_unit: Some(1.0) },
+    Group { name: "1, one cell in a hundred a target", memory: Cold, cargo: 0.55, one_unit: Some(1.0) },
+    Group { name: "2", memory: Cold, cargo: 0.36, one_unit: Some(1.0) },
+    Group { name: "3, 4 and 5", memory: Cold, cargo: 0.4, one_unit: Some(1.0) },
+    Group { name: "6", memory: Cold, cargo: 0.55, one_unit: Some(1.0) },
+    Group { name: "7, everything reached", memory: Cold, cargo: 0.5, one_unit: Some(1.0) },
+    Group { name: "7, ground in pieces, beside the warm Rust", memory: Warm, cargo: 1.0, one_unit: Some(1.3) },
+    Group { name: "8, until it clears only what it touches", memory: Cold, cargo: 1.0, one_unit: None },
+    Group { name: "narrow, beside the warm Rust", memory: Warm, cargo: 1.0, one_unit: None },
+];
 
 /// The group of a grid.
 pub fn group(plan: &Plan) -> &'static Group {

@@ -7,6 +7,8 @@ use crate::clock::Spent;
 use crate::goals::{GROUPS, Group, group};
 use crate::instructions::Counted;
 use crate::plan::Table;
+use crate::served::Memory;
+use crate::sides::Units::{One, Sixteen};
 use crate::times::{Timed, Way};
 
 /// The command, the processor and its cores, the Rust compiler, the date.
@@ -41,14 +43,15 @@ pub fn times(timed: &[Timed]) {
         ["grids", "how many", "ratio to the Rust", "goal", "missed by", "ratio to one unit", "goal", "missed by"];
     table("Goals", &columns, GROUPS.iter().filter_map(|group| goals_row(group, timed)));
     let columns = ["search and grid", "takes", "Rust", "ours, lent", "ratio", "goal", "ns a take: Rust", "ours, lent"];
-    let of = |table| others.iter().filter(move |row| row.plan.table == table).map(|row| cargo_row(row));
-    table("Square grids beside the Rust as cargo builds it", &columns, of(Table::Square));
-    table("Narrow grids beside the Rust as cargo builds it, warm", &columns, of(Table::Narrow));
+    let of = |memory| others.iter().filter(move |row| group(&row.plan).memory == memory);
+    table("Beside the Rust as cargo builds it", &columns, of(Memory::Cold).map(|row| cargo_row(row)));
+    table("Beside the Rust as cargo builds it, warm", &columns, of(Memory::Warm).map(|row| cargo_row(row)));
     let columns = ["search and grid", "Rust", "Rust in one unit", "ours, lent", "ratio to one unit", "goal"];
-    table("Beside the Rust in one codegen unit", &columns, others.iter().map(|row| one_unit_row(row)));
+    table("Beside the Rust in one codegen unit", &columns, of(Memory::Cold).map(|row| one_unit_row(row)));
+    table("Beside the Rust in one codegen unit, warm", &columns, of(Memory::Warm).map(|row| one_unit_row(row)));
     let columns =
         ["search and grid", "Rust", "Rust, warm", "one unit, warm", "ours, lent", "ratio to warm", "to one unit, warm"];
-    table("Beside the Rust with warm memory", &columns, others.iter().map(|row| memory_row(row)));
+    table("What warm memory brings the Rust", &columns, others.iter().map(|row| memory_row(row)));
     let columns = ["search and grid", "ours, lent", "ours, allocating", "ratio to the Rust", "to one unit"];
     table("Ours when it allocates", &columns, others.iter().map(|row| allocating_row(row)));
     let columns = [
@@ -89,24 +92,26 @@ fn goals_row(of: &Group, timed: &[Timed]) -> Option<[String; 8]> {
         Some([span, format!("{goal:.2}"), if missed == 0 { "none".into() } else { format!("**{missed}**") }])
     };
     let ([span, goal, missed], [one_span, one_goal, one_missed]) =
-        (judged(of.rust, Some(of.cargo))?, judged(Way::ONE_UNIT, of.one_unit)?);
+        (judged(of.rust(Sixteen), Some(of.cargo))?, judged(of.rust(One), of.one_unit)?);
     Some([of.name.into(), grids.len().to_string(), span, goal, missed, one_span, one_goal, one_missed])
 }
 
 /// A grid beside the Rust as cargo builds it.
 fn cargo_row(of: &Timed) -> [String; 8] {
     let group = group(&of.plan);
-    let [rust, lent] = [group.rust, Way::Lent].map(|way| milliseconds(of.of(way)));
-    let (ratio, goal) = (ratio(of, Way::Lent, group.rust), goal(of, group.rust, Some(group.cargo)));
+    let way = group.rust(Sixteen);
+    let [rust, lent] = [way, Way::Lent].map(|way| milliseconds(of.of(way)));
+    let (ratio, goal) = (ratio(of, Way::Lent, way), goal(of, way, Some(group.cargo)));
     let a_take = |way| format!("{:.1}", nanoseconds(of.of(way).processor) / of.takes as f64);
-    [of.plan.name(), grouped(of.takes), rust, lent, ratio, goal, a_take(group.rust), a_take(Way::Lent)]
+    [of.plan.name(), grouped(of.takes), rust, lent, ratio, goal, a_take(way), a_take(Way::Lent)]
 }
 
 /// A grid beside the Rust in one codegen unit.
 fn one_unit_row(of: &Timed) -> [String; 6] {
-    let [rust, one, lent] = [Way::RUST, Way::ONE_UNIT, Way::Lent].map(|way| milliseconds(of.of(way)));
-    let goal = goal(of, Way::ONE_UNIT, group(&of.plan).one_unit);
-    [of.plan.name(), rust, one, lent, ratio(of, Way::Lent, Way::ONE_UNIT), goal]
+    let group = group(&of.plan);
+    let way = group.rust(One);
+    let [rust, one, lent] = [group.rust(Sixteen), way, Way::Lent].map(|way| milliseconds(of.of(way)));
+    [of.plan.name(), rust, one, lent, ratio(of, Way::Lent, way), goal(of, way, group.one_unit)]
 }
 
 /// A grid beside the Rust that finds its memory mapped.
