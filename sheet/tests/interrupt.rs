@@ -3,7 +3,7 @@ mod common;
 use std::fs;
 use std::os::unix::process::ExitStatusExt;
 use std::path::{Path, PathBuf};
-use std::process::{Child, Command, Stdio};
+use std::process::{Child, Command, ExitStatus, Stdio};
 use std::thread;
 use std::time::{Duration, Instant};
 
@@ -20,10 +20,13 @@ fn stand(name: &str) -> PathBuf {
     folder
 }
 
+/// Signals as they are by default, whatever this test was started with: under `nohup` one is ignored.
+const BY_DEFAULT: &str = "exec env --default-signal";
+
 /// Starts a line of a shell that becomes the tool, and waits until its part file is there.
 fn held(folder: &Path, before: &str) -> Child {
     let child = Command::new("sh")
-        .args(["-c", &format!("{before} exec $SHEET {WORDS}")])
+        .args(["-c", &format!("{before} $SHEET {WORDS}")])
         .env("SHEET", env!("CARGO_BIN_EXE_sheet"))
         .current_dir(folder)
         .stdout(Stdio::null())
@@ -35,6 +38,21 @@ fn held(folder: &Path, before: &str) -> Child {
         thread::sleep(Duration::from_millis(5));
     }
     child
+}
+
+/// How the tool ended, which it does soon.
+fn ended(child: &mut Child) -> ExitStatus {
+    let start = Instant::now();
+    loop {
+        if let Some(status) = child.try_wait().unwrap() {
+            return status;
+        }
+        if start.elapsed() > Duration::from_secs(20) {
+            child.kill().unwrap();
+            panic!("it does not end");
+        }
+        thread::sleep(Duration::from_millis(5));
+    }
 }
 
 fn parts(folder: &Path) -> Vec<String> {
@@ -52,9 +70,9 @@ fn send(signal: &str, child: &Child) {
 fn an_interrupt_leaves_nothing() {
     for (signal, number) in [("HUP", 1), ("INT", 2), ("TERM", 15)] {
         let folder = stand(&format!("interrupt-{signal}"));
-        let mut child = held(&folder, "");
+        let mut child = held(&folder, BY_DEFAULT);
         send(signal, &child);
-        let status = child.wait().unwrap();
+        let status = ended(&mut child);
         assert_eq!((status.signal(), status.code()), (Some(number), None), "{signal}");
         assert_eq!(parts(&folder), [""; 0], "{signal}");
         assert_eq!(fs::read_to_string(folder.join("out.asc")).unwrap(), OLD, "{signal}");
@@ -66,12 +84,12 @@ fn an_interrupt_leaves_nothing() {
 #[test]
 fn an_ignored_signal_stays_ignored() {
     let folder = stand("interrupt-ignored");
-    let mut child = held(&folder, "trap '' HUP;");
+    let mut child = held(&folder, "trap '' HUP; exec");
     send("HUP", &child);
     thread::sleep(Duration::from_millis(200));
     assert!(child.try_wait().unwrap().is_none(), "it died of what it was to ignore");
     assert!(fs::read(folder.join("pipe")).unwrap().starts_with(b"\x89PNG"));
-    assert!(child.wait().unwrap().success());
+    assert!(ended(&mut child).success());
     assert_eq!(cells(&folder, "out.asc"), "0 1 2");
     assert_eq!(parts(&folder), [""; 0]);
 }
@@ -80,9 +98,9 @@ fn an_ignored_signal_stays_ignored() {
 #[test]
 fn a_part_file_that_was_left() {
     let folder = stand("interrupt-killed");
-    let mut child = held(&folder, "for number in '' -1 -2; do echo left >out.asc.$$$number.part; done;");
+    let mut child = held(&folder, "for number in '' -1 -2; do echo left >out.asc.$$$number.part; done; exec");
     assert!(fs::read(folder.join("pipe")).unwrap().starts_with(b"\x89PNG"));
-    assert!(child.wait().unwrap().success());
+    assert!(ended(&mut child).success());
     assert_eq!(cells(&folder, "out.asc"), "0 1 2");
     assert_eq!(parts(&folder).len(), 3);
 }
