@@ -5,6 +5,8 @@
 // says: the file form is judged first, then the search that it asks for answers on its grids, and the
 // bytes of that outcome, refusals included, stand at the front of the output. The call has no condition,
 // and what it is given decides what it gives and leaves.
+#![tactic(auto)]
+
 mod file;
 mod grids;
 mod search;

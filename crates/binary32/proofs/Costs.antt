@@ -55,6 +55,9 @@ product_shape f (fin false (suc m) e) s_positive (plus (number n d)) =
 product_shape f (fin false (suc m) e) s_positive (minus_zero d) =
     let none : suc m * up e * (0 * up d) ≡ 0 = simp (zero-mul, mul-zero) in
     subst NotBelowZero (sym (ap (λ (k : ℕ). round f true k (down e * down d)) none ∙ round_zero f true (down e * down d) (mul-pos (down_pos e) (down_pos d)))) (minus_zero (pos 0))
+product_shape f nan {b = b} s_positive b_shape = elim s_positive [ ]
+product_shape f (inf _) {b = b} s_positive b_shape = elim s_positive [ ]
+product_shape f (fin true _ e) {b = b} s_positive b_shape = elim s_positive [ ]
 
 -- A number above 0 times a cost is a cost, where it overflows or underflows too. Proof: the number is not 0, so that with +infinity it gives +infinity.
 -- With -0 it gives -0, and with any other cost a value whose sign is clear.

@@ -80,6 +80,9 @@ none_below_minus (inf true) c_number minus infinite = refl
 none_below_minus (inf true) c_number minus (number m e) = refl
 none_below_minus (fin true n d) c_number minus infinite = refl
 none_below_minus (fin true n d) c_number minus (number m e) = refl
+none_below_minus nan c_number minus _ = elim c_number [ ]
+none_below_minus (inf false) c_number minus _ = elim minus [ ]
+none_below_minus (fin false n d) c_number minus _ = elim minus [ ]
 
 -- A value that is no NaN is a distance, or no distance is below it: it is -0, or below 0.
 pub cap_is_distance_or_inert : (c : Float) → T (fits binary32 c) → is_nan c ≡ false → Distance c ⊎ ((x : Float) → Distance x → lt x c ≡ false)

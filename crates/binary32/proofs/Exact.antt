@@ -45,6 +45,10 @@ same_value f (fin t m e) (fin u n d) s a c c_pos x_Fits y_fits x_is y_is =
     ap (λ (r : Bool). fin r m e) x_is.0
     ∙ same_number f s m e n d (subst (λ (r : Bool). T (fits f (fin r m e))) x_is.0 x_Fits) (subst (λ (r : Bool). T (fits f (fin r n d))) y_is.0 y_fits) same
     ∙ ap (λ (r : Bool). fin r n d) (sym y_is.0)
+same_value f lib.Ieee.nan y s a c c_pos x_Fits y_fits x_is y_is = elim x_is [ ]
+same_value f (lib.Ieee.inf _) y s a c c_pos x_Fits y_fits x_is y_is = elim x_is [ ]
+same_value f (fin t m e) lib.Ieee.nan s a c c_pos x_Fits y_fits x_is y_is = elim y_is [ ]
+same_value f (fin t m e) (lib.Ieee.inf _) s a c c_pos x_Fits y_fits x_is y_is = elim y_is [ ]
 
 -- ---- a value that the format holds is a multiple of a power of two of its smallest value
 
@@ -82,3 +86,5 @@ round_held f (fin t m e) s a c c_pos x_Fits x_is =
     round_exact f s (m * up e) (down e) m units.0 (down_pos e) (few_digits f s m e s_fits) (in_range f s m e units.0 s_fits (le_of_eq (sym units.1))) units.1 in
     round_same f s a c (m * up e) (down e) c_pos (down_pos e) (sym x_is.1)
     ∙ same_value f (round f s (m * up e) (down e)) (fin t m e) s (m * up e) (down e) (down_pos e) (round-fits f s (m * up e) (down e)) x_Fits own (x_is.0, refl)
+round_held f lib.Ieee.nan s a c c_pos x_Fits x_is = elim x_is [ ]
+round_held f (lib.Ieee.inf _) s a c c_pos x_Fits x_is = elim x_is [ ]

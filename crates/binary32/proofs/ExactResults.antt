@@ -49,6 +49,10 @@ add_rounds f (fin t m e) (fin u n g) s a c b d c_pos d_pos x_is y_is =
     ∙ same_sign_sum f s (m * up e * down g) (n * up g * down e) (down e * down g)
     ∙ round_same f s top (down e * down g) (a * d + b * c) (c * d) (mul-pos (down_pos e) (down_pos g)) (mul-pos c_pos d_pos)
     (sum_of_fractions (m * up e) (down e) (n * up g) (down g) a c b d x_is.1 y_is.1)
+add_rounds f nan y s a c b d c_pos d_pos x_is y_is = elim x_is [ ]
+add_rounds f (inf _) y s a c b d c_pos d_pos x_is y_is = elim x_is [ ]
+add_rounds f (fin t m e) nan s a c b d c_pos d_pos x_is y_is = elim y_is [ ]
+add_rounds f (fin t m e) (inf _) s a c b d c_pos d_pos x_is y_is = elim y_is [ ]
 
 pub mul_rounds : (f : Format) (x y : Float) (s t : Bool) (a c b d : ℕ) → 0 < c → 0 < d → HasValue x s a c → HasValue y t b d → mul f x y ≡ round f (unlike s t) (a * b) (c * d)
 unfolding mul
@@ -58,6 +62,10 @@ mul_rounds f (fin r m e) (fin u n g) s t a c b d c_pos d_pos x_is y_is =
     ∙ ap (λ (k : Bool). round f (unlike s k) top (down e * down g)) y_is.0
     ∙ round_same f (unlike s t) top (down e * down g) (a * b) (c * d) (mul-pos (down_pos e) (down_pos g)) (mul-pos c_pos d_pos)
     (product_of_fractions (m * up e) (down e) (n * up g) (down g) a c b d x_is.1 y_is.1)
+mul_rounds f nan y s t a c b d c_pos d_pos x_is y_is = elim x_is [ ]
+mul_rounds f (inf _) y s t a c b d c_pos d_pos x_is y_is = elim x_is [ ]
+mul_rounds f (fin r m e) nan s t a c b d c_pos d_pos x_is y_is = elim y_is [ ]
+mul_rounds f (fin r m e) (inf _) s t a c b d c_pos d_pos x_is y_is = elim y_is [ ]
 
 divisor_pos : (n U d b G : ℕ) → 0 < b → 0 < G → n * U * d ≡ b * G → 0 < n
 divisor_pos n U d b G b_pos G_pos is = first_pos n U (first_pos (n * U) d (subst (λ (k : ℕ). 0 < k) (sym is) (mul-pos b_pos G_pos)))
@@ -74,6 +82,10 @@ div_rounds f (fin r m e) (fin u (suc n) g) s t a c b d c_pos d_pos b_pos x_is y_
     ∙ ap (λ (k : Bool). round f (unlike s k) top bottom) y_is.0
     ∙ round_same f (unlike s t) top bottom (a * d) (c * b) (mul-pos (mul-pos (zero-lt-suc n) (up_pos g)) (down_pos e)) (mul-pos c_pos b_pos)
     (quotient_of_fractions (m * up e) (down e) (suc n * up g) (down g) a c b d x_is.1 y_is.1)
+div_rounds f nan y s t a c b d c_pos d_pos b_pos x_is y_is = elim x_is [ ]
+div_rounds f (inf _) y s t a c b d c_pos d_pos b_pos x_is y_is = elim x_is [ ]
+div_rounds f (fin r m e) nan s t a c b d c_pos d_pos b_pos x_is y_is = elim y_is [ ]
+div_rounds f (fin r m e) (inf _) s t a c b d c_pos d_pos b_pos x_is y_is = elim y_is [ ]
 
 -- ---- whole numbers
 

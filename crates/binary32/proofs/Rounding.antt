@@ -16,6 +16,8 @@ use Rattle.binary32.proofs.DistanceOrder.{le→not_lt}
 
 clear_of_value : (x : Float) (a c : ℕ) → HasValue x false a c → T (sign_clear x)
 clear_of_value (fin s m e) a c x_is = subst (λ (r : Bool). T (not r)) (sym x_is.0) tt
+clear_of_value lib.Ieee.nan a c x_is = elim x_is [ ]
+clear_of_value (inf _) a c x_is = elim x_is [ ]
 
 units_clear : (f : Format) (q k : ℕ) → T (sign_clear (units f false q k))
 unfolding units

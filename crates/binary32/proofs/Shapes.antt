@@ -83,3 +83,6 @@ distance_is_non_negative x_good = non_negative x_good.held (plus (distance_shape
 -- So can a number above 0.
 pub positive_is_non_negative : (s : Float) → T (fits binary32 s) → T (positive s) → NonNegative s
 positive_is_non_negative (fin false m e) held s_positive = non_negative held (plus (number m e))
+positive_is_non_negative nan held s_positive = elim s_positive [ ]
+positive_is_non_negative (inf _) held s_positive = elim s_positive [ ]
+positive_is_non_negative (fin true m e) held s_positive = elim s_positive [ ]

@@ -36,6 +36,7 @@ cost_sum_rounds f m e (minus_zero d) h =
     ap (λ (n : ℕ). sum f false (m * up e * down d) true n (down e * down d)) none
     ∙ sum_with_minus_zero f (m * up e * down d) (down e * down d)
     ∙ ap (λ (n : ℕ). round f false n (down e * down d)) (sym (add-zero (m * up e * down d)) ∙ ap (λ (n : ℕ). m * up e * down d + n) (sym none))
+cost_sum_rounds f m e (plus infinite) h = elim h [ ]
 
 infinite_left : (f : Format) {w : Float} → NotBelowZero w → add f (inf false) w ≡ inf false
 unfolding add
@@ -81,6 +82,8 @@ unfolding lt
 costs_in_order (plus (number n d)) (plus (number p g)) w_finite v_finite h = ltb-false (p * up g * down d) (n * up d * down g) h
 costs_in_order (plus (number n d)) (minus_zero g) w_finite v_finite h = no_more (0 * up g * down d) (n * up d * down g) (0 * up g * down d) (ltb-false 0 (0 * up g * down d + n * up d * down g) h)
 costs_in_order {v} (minus_zero d) v_shape w_finite v_finite h = le_trans (le_of_eq (ap (λ (n : ℕ). n * den v) (zero-mul (up d)) ∙ zero-mul (den v))) zero-le
+costs_in_order {v = v} (plus infinite) v_shape w_finite v_finite h = elim w_finite [ ]
+costs_in_order (plus (number n d)) (plus infinite) w_finite v_finite h = elim v_finite [ ]
 
 numbers_in_order : (f : Format) (m : ℕ) (e : ℤ) (n : ℕ) (d : ℤ) {w v : Float} → NotBelowZero w → NotBelowZero v → T (finite w) → T (finite v)
     → lt (fin false n d) (fin false m e) ≡ false → lt v w ≡ false → lt (add f (fin false n d) v) (add f (fin false m e) w) ≡ false

@@ -5,6 +5,8 @@
 // IEEE 754 (`of_bits`, `bits_of`), and that the lengths of the two steps are 1 and the binary32 value
 // nearest to the root of 2 (`STRAIGHT`, `DIAGONAL`, and the theorem of proofs/RootOfTwo.antt). Its laws on binary32 (order, rounding, sums, products, exact
 // results) are in proofs/, for the crates above.
+#![tactic(auto)]
+
 mod bits;
 mod environment;
 mod nodata;

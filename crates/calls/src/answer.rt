@@ -1,13 +1,13 @@
 // What a call answers. specs/Answer.antt gives document 01's number for each refusal.
 
 // What is counted in an accepted call.
-#[derive(Drop)]
+#[derive(Clone, Copy)]
 pub struct Counts {
     pub takes: u64,
 }
 
 // Why a call is refused, with the index of the time or of the mask cell where there is one.
-#[derive(Drop)]
+#[derive(Clone, Copy)]
 pub enum Refusal {
     SizeOutOfBounds,
     SizesDiffer,
@@ -19,14 +19,14 @@ pub enum Refusal {
 }
 
 // What the tests of a call come to.
-#[derive(Drop)]
+#[derive(Clone, Copy)]
 pub enum Judged {
     Passes,
     Stops(Refusal),
 }
 
 // What a search answers, beside what it leaves in the lent slices.
-#[derive(Drop)]
+#[derive(Clone, Copy)]
 pub enum Answer {
     Accepted(Counts),
     Refused(Refusal),

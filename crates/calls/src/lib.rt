@@ -6,6 +6,8 @@
 // cell size, with one NaN for all (`scale`, `settle`); and that a refusal has document 01's number
 // (`number_of`). specs/Answer.antt gives that number, and says what a call leaves in the lent slices;
 // every promise goes through it. proofs/ has what a search concludes from a judgement.
+#![tactic(auto)]
+
 mod answer;
 mod fill;
 mod judge_distances;

@@ -6,7 +6,7 @@ ghost use Rattle.calls.specs.Numbered.{numbered_as};
 use crate::answer::Refusal;
 
 // A refusal's number, with its index where it has one.
-#[derive(Drop)]
+#[derive(Clone, Copy)]
 pub enum Numbered {
     Plain(u8),
     At(u8, u32),

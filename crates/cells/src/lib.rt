@@ -6,6 +6,8 @@
 // `place_of` tells), and that the ring serves cells in the order in which they came (`push`, `take`).
 // Its laws, for the crates above, are in proofs/: that a neighbour is a cell of the grid, and what the
 // ring's functions do to the list of the waiting cells.
+#![tactic(auto)]
+
 mod neighbours;
 mod ring;
 mod sizes;

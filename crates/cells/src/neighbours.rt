@@ -22,7 +22,7 @@ pub const OFFSETS: [[i32; 2]; 8] = [
 
 // The neighbours that there are: up to `straight` those to the sides, below and above, up to `count` the
 // diagonal ones.
-#[derive(Drop)]
+#[derive(Clone, Copy)]
 pub struct Neighbours {
     pub cells: [u32; 8],
     pub straight: usize,
@@ -45,7 +45,7 @@ fn index(size: Size, row: i32, col: i32) -> u32
 }
 
 // The row and the column of a cell.
-#[derive(Drop)]
+#[derive(Clone, Copy)]
 pub struct Place {
     pub row: i32,
     pub col: i32,
@@ -64,7 +64,7 @@ pub fn place_of(size: Size, cell: u32) -> Place
 }
 
 // What stands at an offset from a cell: another cell, or nothing where the grid ends.
-#[derive(Drop)]
+#[derive(Clone, Copy)]
 pub enum Neighbour {
     At(u32),
     Outside,

@@ -4,14 +4,14 @@ ghost use Rattle.std.specs.Prelude.{◌≡◌, ◌<◌};
 ghost use Rattle.cells.specs.Ring.{next, HasRoom, HasCell, SaysEmpty, NewRing, Pushed, Took};
 
 // The slot of the cell that is next to be taken, and the slot that is next to be filled.
-#[derive(Drop)]
+#[derive(Clone, Copy)]
 pub struct Ring {
     pub head: usize,
     pub tail: usize,
 }
 
 // The cell that was taken, and the ring without it.
-#[derive(Drop)]
+#[derive(Clone, Copy)]
 pub struct Taken {
     pub cell: u32,
     pub ring: Ring,

@@ -4,6 +4,8 @@
 // before it writes anything, or leaves in the answer what the rules of the search give, counts the
 // takes, and leaves the work buffers all zero. From these promises alone proofs/ shows that a call is
 // decided, and demand 3: what an accepted call answers are the least sums.
+#![tactic(auto)]
+
 mod obstacles;
 mod plain;
 mod search;

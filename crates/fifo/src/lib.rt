@@ -4,3 +4,4 @@
 // has the laws that hold of every such net: it ends within the square, it holds the least sums, and
 // it is determined. A net that tries idle steps too, or whose labels hold more, makes the same search
 // (proofs/Simulation.antt).
+#![tactic(auto)]

@@ -5,14 +5,14 @@ ghost use Rattle.gridfile.specs.Lookups.{field_at, stands_at};
 use crate::numbers::u16_at;
 
 // A part of the file: where it starts, and how many bytes it has.
-#[derive(Drop)]
+#[derive(Clone, Copy)]
 pub struct Part {
     pub start: usize,
     pub len: usize,
 }
 
 // What stands at a place where a field is looked for.
-#[derive(Drop)]
+#[derive(Clone, Copy)]
 pub enum Sought {
     Content(Part),
     Missing,

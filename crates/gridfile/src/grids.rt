@@ -9,7 +9,7 @@ use crate::tags;
 use crate::used::grids_of;
 
 // Where each grid stands in the file. A grid that the search has not is empty, and starts at 0.
-#[derive(Drop)]
+#[derive(Clone, Copy)]
 pub struct Grids {
     pub targets: Part,
     pub obstacles: Part,
@@ -18,14 +18,14 @@ pub struct Grids {
 }
 
 // What the fields after 03 come to.
-#[derive(Drop)]
+#[derive(Clone, Copy)]
 pub enum Found {
     Exactly(Grids),
     Breach,
 }
 
 // A grid, and the place of the next field.
-#[derive(Drop)]
+#[derive(Clone, Copy)]
 pub enum Next {
     Grid(Part, usize),
     Breach,

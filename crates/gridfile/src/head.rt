@@ -9,7 +9,7 @@ use crate::tags;
 use crate::used::{uses_adjacent, uses_cell_size, uses_diagonals, uses_limit};
 
 // What the three fields hold, as numbers; the cell size and the limit by their bits.
-#[derive(Drop)]
+#[derive(Clone, Copy)]
 pub struct Head {
     pub search: u8,
     pub diagonals: u8,

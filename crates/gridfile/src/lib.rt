@@ -7,6 +7,8 @@
 // input and no output here. proofs/Requests.antt has what a program may rely on in a request,
 // proofs/ReadBack.antt that the fields of a file are those that were written, and proofs/Cases.antt
 // files and answers on which the definitions were computed.
+#![tactic(auto)]
+
 mod answers;
 mod contents;
 mod fields;

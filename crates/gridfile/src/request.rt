@@ -8,7 +8,7 @@ use binary32::of_bits;
 use rules::{BarrierDiagonals, Size, Spacing};
 
 // A search with all that it is given.
-#[derive(Drop)]
+#[derive(Clone, Copy)]
 pub struct Request {
     pub search: u8,
     pub diagonals: BarrierDiagonals,
@@ -19,7 +19,7 @@ pub struct Request {
 }
 
 // A file's request, or refusal 8.
-#[derive(Drop)]
+#[derive(Clone, Copy)]
 pub enum Parsed {
     Good(Request),
     Bad,

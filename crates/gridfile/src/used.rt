@@ -4,7 +4,7 @@ ghost use Rattle.gridfile.specs.Request.{uses_cell_size, uses_limit, uses_diagon
 ghost use Rattle.gridfile.specs.Lookups.{has_of};
 
 // Which of the grids a search has.
-#[derive(Drop)]
+#[derive(Clone, Copy)]
 pub struct Has {
     pub targets: bool,
     pub obstacles: bool,

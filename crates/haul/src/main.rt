@@ -1,4 +1,6 @@
 // Program `haul`: reads a grid file on standard input, and writes its answer on standard output.
+#![tactic(auto)]
+
 use answer::{LONGEST, LONGEST_FILE, answer_file};
 use libc::{STDIN_FILENO, STDOUT_FILENO};
 

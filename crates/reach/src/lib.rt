@@ -5,6 +5,8 @@
 // the cells beside them that are above the budget are added once each (`add_adjacent`). The contracts
 // cite the rules of search 7. Then the cells are put back, for the next search (`clear_distances`,
 // `clear_met`).
+#![tactic(auto)]
+
 mod adjacent;
 mod clearing;
 mod listing;

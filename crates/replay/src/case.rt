@@ -9,7 +9,7 @@ use crate::words::At;
 use crate::{grids, settings, stored};
 
 // The grids of a case, the number of the answer's cells, and the place past the grids.
-#[derive(Drop)]
+#[derive(Clone, Copy)]
 pub struct Grids {
     pub targets: Grid,
     pub obstacles: Grid,
@@ -20,7 +20,7 @@ pub struct Grids {
 }
 
 // A case that was read, and the place past it.
-#[derive(Drop)]
+#[derive(Clone, Copy)]
 pub struct Case {
     pub settings: Settings,
     pub grids: Grids,

@@ -14,7 +14,7 @@ pub const SLOTS: usize = CELLS + 1;
 
 // A grid that was read: its size, the cells that an answer of that size has, how many cells stand
 // in its buffer, and the place past it.
-#[derive(Drop)]
+#[derive(Clone, Copy)]
 pub struct Grid {
     pub size: Size,
     pub n: usize,

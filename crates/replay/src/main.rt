@@ -1,4 +1,6 @@
 // Runs the oracle's stored answers through the library and compares every bit: a line for each file.
+#![tactic(auto)]
+
 ghost use Rattle.std.specs.Prelude.{◌≡◌, length};
 
 mod answers;
@@ -17,7 +19,7 @@ use libc::STDOUT_FILENO;
 use words::At;
 
 // What a case came to: it agrees and ends before this byte, it differs, or this byte is malformed.
-#[derive(Drop)]
+#[derive(Clone, Copy)]
 enum Step {
     Agrees(usize),
     Differs,
@@ -25,7 +27,7 @@ enum Step {
 }
 
 // What a text came to: so many cases agree, this case differs, or this byte is malformed.
-#[derive(Drop)]
+#[derive(Clone, Copy)]
 enum Outcome {
     Agree(u64),
     Differs(u64),

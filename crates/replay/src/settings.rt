@@ -4,7 +4,7 @@ use crate::words::At;
 use rules::{BarrierDiagonals, Spacing};
 
 // The search with its flags and numbers, and the place of its grids.
-#[derive(Drop)]
+#[derive(Clone, Copy)]
 pub struct Settings {
     pub search: u64,
     pub diagonals: BarrierDiagonals,

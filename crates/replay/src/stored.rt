@@ -4,7 +4,7 @@ use crate::{buffers, grids, words};
 use calls::fill_cells;
 
 // An answer: the takes, or document 01's number of the refusal, with the index where it has one.
-#[derive(Drop)]
+#[derive(Clone, Copy)]
 pub enum Told {
     Accepted(u64),
     Refused(u64),
@@ -12,7 +12,7 @@ pub enum Told {
 }
 
 // The stored answer, and the place past it.
-#[derive(Drop)]
+#[derive(Clone, Copy)]
 pub struct Stored {
     pub told: Told,
     pub at: At,

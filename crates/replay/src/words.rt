@@ -5,21 +5,21 @@ ghost use Rattle.replay.specs.Words.{Stands, Spelled};
 
 // A place in the text: the index of a byte, and whether all that was read before it had the form.
 // Where a word has not, the place stays at that word, and nothing after it is read.
-#[derive(Drop)]
+#[derive(Clone, Copy)]
 pub struct At {
     pub pos: usize,
     pub ok: bool,
 }
 
 // A number that was read, and the place past it.
-#[derive(Drop)]
+#[derive(Clone, Copy)]
 pub struct Number {
     pub value: u64,
     pub at: At,
 }
 
 // A float's bits that were read, and the place past them.
-#[derive(Drop)]
+#[derive(Clone, Copy)]
 pub struct Bits {
     pub value: u32,
     pub at: At,
@@ -27,7 +27,7 @@ pub struct Bits {
 
 // A signed number that was read, its cells along a side of a grid, none where it is negative, and
 // the place past it.
-#[derive(Drop)]
+#[derive(Clone, Copy)]
 pub struct Side {
     pub value: i32,
     pub cells: u64,

@@ -5,23 +5,24 @@
 // it computes. proofs/ has the grids on which that was tried, and what holds of the rules: demand 3
 // for searches 1 to 3, that a value of searches 4 to 6 is that of a closest target, and that every
 // search's takes are within the square, and 0 where nothing starts.
+#![tactic(auto)]
 
 // Rows and columns are signed 32-bit numbers.
-#[derive(Drop)]
+#[derive(Clone, Copy)]
 pub struct Size {
     pub rows: i32,
     pub cols: i32,
 }
 
 // Cell size and limit travel together as one record.
-#[derive(Drop)]
+#[derive(Clone, Copy)]
 pub struct Spacing {
     pub cell_size: f32,
     pub limit: f32,
 }
 
 // Whether a way may pass between two obstacles that meet at a corner.
-#[derive(Drop)]
+#[derive(Clone, Copy)]
 pub enum BarrierDiagonals {
     Include,
     Exclude,

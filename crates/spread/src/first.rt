@@ -12,7 +12,7 @@ use rules::Size;
 pub const NODATA_BYTE: u8 = 255;
 
 // What a cell begins with: its label, and whether it starts.
-#[derive(Drop)]
+#[derive(Clone, Copy)]
 pub struct First {
     pub distance: f32,
     pub value: f32,

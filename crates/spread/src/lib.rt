@@ -9,6 +9,8 @@
 // with each cell that is taken: proofs/Running.antt and proofs/Tracing.antt have the laws for it. Where many searches
 // from one cell each follow one another, `begin_clear` begins once for all, and `begin_at` begins each of them, if
 // between two the cells that the last one reached are put back (`Clear` in specs/Begin.antt).
+#![tactic(auto)]
+
 mod begin;
 mod first;
 mod formulas;

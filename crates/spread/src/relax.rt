@@ -12,7 +12,7 @@ use binary32::{DIAGONAL, STRAIGHT};
 use cells::Ring;
 
 // The cell that is left, with the label that it had when it was taken.
-#[derive(Drop)]
+#[derive(Clone, Copy)]
 pub struct Left {
     pub cell: u32,
     pub distance: f32,

@@ -2,7 +2,7 @@
 use rules::{BarrierDiagonals, Size};
 
 // How a search begins and steps.
-#[derive(Drop)]
+#[derive(Clone, Copy)]
 pub enum Rule {
     // distances_up_to: d + s, from the targets, up to the limit.
     Plain,
@@ -21,7 +21,7 @@ pub enum Rule {
 }
 
 // All grids have the one size. The rules `Obstacles`, `Closest` and `FromMaskCell` do not read the limit.
-#[derive(Drop)]
+#[derive(Clone, Copy)]
 pub struct Search {
     pub rule: Rule,
     pub size: Size,

@@ -14,7 +14,7 @@ use cells::{Ring, interior_neighbours, is_empty, is_interior, take};
 use rules::Size;
 
 // A taken cell, the distance that it had when it was taken, and the ring afterwards.
-#[derive(Drop)]
+#[derive(Clone, Copy)]
 pub struct TakenCell {
     pub cell: u32,
     pub distance: f32,

@@ -12,7 +12,7 @@ use cells::Ring;
 use rules::BarrierDiagonals;
 
 // The ring after some takes, and how many there were.
-#[derive(Drop)]
+#[derive(Clone, Copy)]
 pub struct TakenSome {
     pub ring: Ring,
     pub takes: u64,

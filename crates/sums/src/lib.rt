@@ -7,6 +7,8 @@
 // cell over the budget. The takes of all runs are counted together, and the work buffers are left all
 // zero. From these promises alone proofs/ shows that a call is decided, and that the takes of each start
 // are within the square.
+#![tactic(auto)]
+
 mod amounts;
 mod gain;
 mod listing;

@@ -8,7 +8,7 @@ use reach::list_cell;
 use spread::{Search, take_by_half_sum};
 
 // How many cells a search took, and how many are listed.
-#[derive(Drop)]
+#[derive(Clone, Copy)]
 pub struct Reached {
     pub takes: u64,
     pub count: usize,

@@ -9,14 +9,14 @@ use rules::Size;
 use spread::{begin_clear, is_target};
 
 // What the search from a cell took, and whether it reached a cell over the budget.
-#[derive(Drop)]
+#[derive(Clone, Copy)]
 pub struct Searched {
     pub takes: u64,
     pub over: bool,
 }
 
 // What all searches came to: they took this many cells together, or that from this cell was over the budget.
-#[derive(Drop)]
+#[derive(Clone, Copy)]
 pub enum Found {
     All(u64),
     Over(u32),

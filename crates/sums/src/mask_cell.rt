@@ -74,7 +74,7 @@ fn sum_reached(
 }
 
 // What the search from a mask cell comes to: its takes, whether it reached a cell over the budget, and the sum.
-#[derive(Drop)]
+#[derive(Clone, Copy)]
 pub struct MaskSum {
     pub takes: u64,
     pub over: bool,

@@ -4,6 +4,8 @@
 // before it writes anything, or leaves in the answer what the rules of the search give, counts the
 // takes, and leaves the work buffers all zero. From these promises alone proofs/ shows that a call is
 // decided, that each value is that of a closest target, and that the takes are within the square.
+#![tactic(auto)]
+
 mod closest;
 mod less_than;
 mod search;

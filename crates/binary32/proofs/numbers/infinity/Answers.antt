@@ -1,0 +1,8 @@
+-- `numbers::infinity` meets its contract: the quotient is computed. Assumes nothing.
+use mathlib.Core.Path.{refl}
+use lib.Ieee.{div, of_bits}
+use Rattle.binary32.proofs.numbers.infinity.Goals as goal
+
+pub returns : goal.returns
+unfolding div of_bits
+returns c = refl
