@@ -9,8 +9,8 @@ use rules::Size;
 
 // 6: the first time below 0 in row order, which leaves both loops.
 pub fn first_negative(size: Size, times: &[f32]) -> Judged
-    requires fact_1 { T (in_bounds size) }
-    requires fact_2 { length times.now ≡ count size }
+    requires bounded { T (in_bounds size) }
+    requires whole { length times.now ≡ count size }
     ensures { judged_as result ≡ first_that_holds (negative_time times.now ∷ []) }
 {
     let rows = size.rows as usize;
@@ -30,8 +30,8 @@ pub fn first_negative(size: Size, times: &[f32]) -> Judged
 
 // 5, as the limit was judged, then 6.
 pub fn judge_limit_and_times(limit: Judged, size: Size, times: &[f32]) -> Judged
-    requires fact_1 { T (in_bounds size) }
-    requires fact_2 { length times.now ≡ count size }
+    requires bounded { T (in_bounds size) }
+    requires whole { length times.now ≡ count size }
     ensures { judged_as result ≡ or_else (judged_as limit) (first_that_holds (negative_time times.now ∷ [])) }
 {
     let negative = first_negative(size, times);

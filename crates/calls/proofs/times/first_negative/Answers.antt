@@ -11,9 +11,9 @@ use Rattle.calls.proofs.times.first_negative.Goals as goal
 
 pub rows-init : goal.rows-init
 rows-init c =
-    let within = bounded c.args.size c.requires.0 in
+    let within = bounded c.args.size c.requires.bounded in
     let few = within.cells_most in
-    let long = c.requires.1 in
+    let long = c.requires.whole in
     (scan_starts _ _ _ _ (rw (cast_is within.rows_side, cast_is within.cols_side) (sym long)), refl, omega arith)
 
 pub loop-col-preserved : goal.loop-col-preserved

@@ -6,7 +6,7 @@ use Rattle.reach.proofs.PutBack.{put_back_none, put_back_one}
 use Rattle.reach.proofs.clearing.clear_there.Goals as goal
 
 pub bounds-met-at : goal.bounds-met-at
-bounds-met-at c = let known = c.there-1.given in c.requires known.0.0 (rw (ap cells_at known.1) (inl refl))
+bounds-met-at c = c.requires c.in-At.cell (rw (ap cells_at c.in-At.is) (inl refl))
 
 pub returns-in-At : goal.returns-in-At
 returns-in-At c = rw (ap cells_at c.in-At.is) (sym (put_back_one 0 c.args.met.now c.in-At.cell))
