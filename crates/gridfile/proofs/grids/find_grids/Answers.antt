@@ -1,104 +1,107 @@
 -- `grids::find_grids` meets its contract: each step of the code is one of `Steps`. Assumes nothing.
 use mathlib.Core.Path.{sym}
-use mathlib.Core.List.{List}
 use Prim.Native.Nat.{ℕ}
 use native.Mathlib.Omega.{arith}
 use Rattle.gridfile.specs.Fields.{Part}
-use Rattle.gridfile.specs.Request.{Grids}
 use Rattle.gridfile.specs.Lookups.{Found}
 use Rattle.rules.proofs.Tests.{said}
 use Rattle.gridfile.proofs.Steps.{Reached, steps, then_05, then_06, then_07, at_end, all_of, begin, on, breach, bytes_after, all_found}
 use Rattle.gridfile.proofs.grids.find_grids.Goals as goal
-use Rattle.gridfile.proofs.grids.find_grids.Goals.{After-grids_of-has, In-Grid, In-Grid-fourth, In-Grid-second, In-Grid-third}
+use Rattle.gridfile.proofs.grids.find_grids.Goals.{After-grids_of-has, In-Grid, In-Grid-second, In-Grid-third, In-Grid-fourth}
 
--- What the rest of the steps finds, said at the place where the table was read.
-abbrev Comes : After-grids_of-has → (ℕ → Found) → ℕ → Type 0
-Comes Comes rest at = let a = Comes.args in Reached a.file.now a.search a.at rest at
+-- The rests, from where each grid is known.
+abbrev Reached04 : After-grids_of-has → Type 0
+Reached04 c = Reached c.args.file.now c.args.search c.args.at (steps c.args.file.now c.grids_of-has.result) c.args.at
 
--- That place, from where each grid is known; and the grids.
-abbrev from_05 : In-Grid → tie.After-grids-of
-from_05 from_05 = from_05
+abbrev Reached05 : In-Grid → Type 0
+Reached05 c =
+    Reached c.args.file.now c.args.search c.args.at (then_05 c.args.file.now c.grids_of-has.result c.in-Grid.targets) c.in-Grid.at
 
-abbrev from_06 : In-Grid-second → tie.After-known-told
-from_06 from_06 = from_06
+abbrev Reached06 : In-Grid-second → Type 0
+Reached06 c =
+    Reached c.args.file.now c.args.search c.args.at (then_06 c.args.file.now c.grids_of-has.result c.in-Grid.targets c.in-Grid-second.obstacles) c.in-Grid-second.at
 
-abbrev from_07 : In-Grid-third → tie.After-known-told2
-from_07 from_07 = from_07
+abbrev Reached07 : In-Grid-third → Type 0
+Reached07 c =
+    Reached c.args.file.now c.args.search c.args.at (then_07 c.args.file.now c.grids_of-has.result c.in-Grid.targets c.in-Grid-second.obstacles c.in-Grid-third.times)
+    c.in-Grid-third.at
 
-abbrev from_end : In-Grid-fourth → tie.After-known-told3
-from_end from_end = from_end
+abbrev ReachedEnd : In-Grid-fourth → Type 0
+ReachedEnd c =
+    Reached c.args.file.now c.args.search c.args.at
+    (at_end c.args.file.now (all_of c.in-Grid.targets c.in-Grid-second.obstacles c.in-Grid-third.times c.in-Grid-fourth.values))
+    c.in-Grid-fourth.end
 
-abbrev targets : In-Grid → Part
-targets targets = targets.in-Grid.targets
+at_04 : (c : After-grids_of-has) → Reached04 c
+at_04 c = begin c.grids_of-has.result c.requires c.grids_of-has.ensures
 
-abbrev obstacles : In-Grid-second → Part
-obstacles obstacles = obstacles.in-Grid-second.obstacles
-
-abbrev times : In-Grid-third → Part
-times times = times.in-Grid-third.times
-
-abbrev values : In-Grid-fourth → Part
-values values = values.in-Grid-fourth.values
-
-abbrev file_of : After-grids_of-has → List ℕ
-file_of file_of = file_of.args.file.now
-
-at_04 : (g : After-grids_of-has) → Comes g (steps (file_of g) g.grids_of-has.result) g.args.at
-at_04 g = begin g.grids_of-has.result g.requires g.grids_of-has.ensures
-
-at_05 : (c : In-Grid) → let g = from_05 c in Comes g (then_05 (file_of g) g.grids_of.result (targets c)) c.in-Grid.at
+at_05 : (c : In-Grid) → Reached05 c
 at_05 c =
-    let g = from_05 c in
-    on g.grids_of.result.targets 0x04 (then_05 (file_of g) g.grids_of.result) (at_04 g) (said c.next_grid-first.ensures c.in-Grid.is)
+    let file = c.args.file.now in
+    let has = c.grids_of-has.result in
+    on has.targets 0x04 (then_05 file has) (begin has c.requires c.grids_of-has.ensures) (said c.next_grid-first.ensures c.in-Grid.is)
 
-at_06 : (c : In-Grid-second) → let b = from_06 c in let g = from_05 b in Comes g (then_06 (file_of g) g.grids_of.result (targets b) (obstacles c)) c.in-Grid-second.at
-at_06 c =
-    let b = from_06 c in
-    let g = from_05 b in
-    on g.grids_of.result.obstacles 0x05 (then_06 (file_of g) g.grids_of.result (targets b)) (at_05 b) (said c.next_grid-second.ensures c.in-Grid-second.is)
+at_06 : (c : In-Grid-second) → Reached c.args.file.now c.args.search c.args.at (then_05 c.args.file.now c.grids_of-has.result c.in-Grid.targets) c.in-Grid.at → Reached06 c
+at_06 c here =
+    let has = c.grids_of-has.result in
+    on has.obstacles 0x05 (then_06 c.args.file.now has c.in-Grid.targets) here (said c.next_grid-second.ensures c.in-Grid-second.is)
 
-at_07 : (c : In-Grid-third) → let d = from_07 c in let b = from_06 d in let g = from_05 b in Comes g (then_07 (file_of g) g.grids_of.result (targets b) (obstacles d) (times c)) c.in-Grid-third.at
-at_07 c =
-    let d = from_07 c in
-    let b = from_06 d in
-    let g = from_05 b in
-    on g.grids_of.result.times 0x06 (then_07 (file_of g) g.grids_of.result (targets b) (obstacles d)) (at_06 d) (said c.next_grid-third.ensures c.in-Grid-third.is)
+at_07 :
+    (c : In-Grid-third)
+    → Reached c.args.file.now c.args.search c.args.at (then_06 c.args.file.now c.grids_of-has.result c.in-Grid.targets c.in-Grid-second.obstacles) c.in-Grid-second.at
+    → Reached07 c
+at_07 c here =
+    let has = c.grids_of-has.result in
+    on has.times 0x06 (then_07 c.args.file.now has c.in-Grid.targets c.in-Grid-second.obstacles) here (said c.next_grid-third.ensures c.in-Grid-third.is)
 
-abbrev found : In-Grid-fourth → Grids
-found found = let e = from_end found in let d = from_07 e in all_of (targets (from_06 d)) (obstacles d) (times e) (values found)
+at_the_end :
+    (c : In-Grid-fourth)
+    → Reached c.args.file.now c.args.search c.args.at (then_07 c.args.file.now c.grids_of-has.result c.in-Grid.targets c.in-Grid-second.obstacles c.in-Grid-third.times) c.in-Grid-third.at
+    → ReachedEnd c
+at_the_end c here =
+    let rest : Part → ℕ → Found = λ v. at_end c.args.file.now (all_of c.in-Grid.targets c.in-Grid-second.obstacles c.in-Grid-third.times v) in
+    on c.grids_of-has.result.values 0x07 rest here (said c.next_grid-fourth.ensures c.in-Grid-fourth.is)
 
-at_the_end : (c : In-Grid-fourth) → let g = from_05 (from_06 (from_07 (from_end c))) in Comes g (at_end (file_of g) (found c)) c.in-Grid-fourth.end
-at_the_end c =
-    let e = from_end c in
-    let d = from_07 e in
-    let b = from_06 d in
-    let g = from_05 b in
-    on g.grids_of.result.values 0x07 (λ v. at_end (file_of g) (all_of (targets b) (obstacles d) (times e) v)) (at_07 e) (said c.next_grid-fourth.ensures c.in-Grid-fourth.is)
+pub next_grid-second-requires : goal.next_grid-second-requires
+next_grid-second-requires c = (at_05 (goal.at.next_grid-second-requires c).In-Grid).within
+
+pub next_grid-third-requires : goal.next_grid-third-requires
+next_grid-third-requires c = let at = goal.at.next_grid-third-requires c in (at_06 at.In-Grid-second (at_05 at.In-Grid)).within
+
+pub next_grid-fourth-requires : goal.next_grid-fourth-requires
+next_grid-fourth-requires c =
+    let at = goal.at.next_grid-fourth-requires c in (at_07 at.In-Grid-third (at_06 at.In-Grid-second (at_05 at.In-Grid))).within
 
 pub returns-in_default : goal.returns-in_default
 returns-in_default c =
-    sym (breach c.grids_of-has.result.targets 0x04 (then_05 (file_of (goal.at.returns-in_default c).After-grids_of-has) c.grids_of-has.result) (at_04 (goal.at.returns-in_default c).After-grids_of-has) (said c.next_grid-first.ensures c.in_default.is))
+    let has = c.grids_of-has.result in
+    sym (breach has.targets 0x04 (then_05 c.args.file.now has) (at_04 (goal.at.returns-in_default c).After-grids_of-has) (said c.next_grid-first.ensures c.in_default.is))
 
 pub returns-in_default-second : goal.returns-in_default-second
 returns-in_default-second c =
-    let g = from_05 (goal.at.returns-in_default-second c).In-Grid in
-    sym (breach g.grids_of.result.obstacles 0x05 (then_06 (file_of g) g.grids_of.result (targets (goal.at.returns-in_default-second c).In-Grid)) (at_05 (goal.at.returns-in_default-second c).In-Grid) (said c.next_grid-second.ensures c.in_default-second.is))
+    let has = c.grids_of-has.result in
+    sym (breach has.obstacles 0x05 (then_06 c.args.file.now has c.in-Grid.targets) (at_05 (goal.at.returns-in_default-second c).In-Grid) (said c.next_grid-second.ensures c.in_default-second.is))
 
 pub returns-in_default-third : goal.returns-in_default-third
 returns-in_default-third c =
-    let b = from_06 (goal.at.returns-in_default-third c).In-Grid-second in
-    let g = from_05 b in
-    sym (breach g.grids_of.result.times 0x06 (then_07 (file_of g) g.grids_of.result (targets b) (obstacles (goal.at.returns-in_default-third c).In-Grid-second)) (at_06 (goal.at.returns-in_default-third c).In-Grid-second) (said c.next_grid-third.ensures c.in_default-third.is))
+    let at = goal.at.returns-in_default-third c in
+    let has = c.grids_of-has.result in
+    sym (breach has.times 0x06 (then_07 c.args.file.now has c.in-Grid.targets c.in-Grid-second.obstacles) (at_06 at.In-Grid-second (at_05 at.In-Grid)) (said c.next_grid-third.ensures c.in_default-third.is))
 
 pub returns-in_default-fourth : goal.returns-in_default-fourth
 returns-in_default-fourth c =
-    let d = from_07 (goal.at.returns-in_default-fourth c).In-Grid-third in
-    let b = from_06 d in
-    let g = from_05 b in
-    sym (breach g.grids_of.result.values 0x07 (λ v. at_end (file_of g) (all_of (targets b) (obstacles d) (times (goal.at.returns-in_default-fourth c).In-Grid-third) v)) (at_07 (goal.at.returns-in_default-fourth c).In-Grid-third) (said c.next_grid-fourth.ensures c.in_default-fourth.is))
+    let at = goal.at.returns-in_default-fourth c in
+    let rest : Part → ℕ → Found = λ v. at_end c.args.file.now (all_of c.in-Grid.targets c.in-Grid-second.obstacles c.in-Grid-third.times v) in
+    sym (breach c.grids_of-has.result.values 0x07 rest (at_07 at.In-Grid-third (at_06 at.In-Grid-second (at_05 at.In-Grid))) (said c.next_grid-fourth.ensures c.in_default-fourth.is))
 
 pub returns-then-end-file : goal.returns-then-end-file
-returns-then-end-file c = sym (bytes_after (found (goal.at.returns-then-end-file c).In-Grid-fourth) (at_the_end (goal.at.returns-then-end-file c).In-Grid-fourth) (λ e. omega arith))
+returns-then-end-file c =
+    let at = goal.at.returns-then-end-file c in
+    let here = at_the_end at.In-Grid-fourth (at_07 at.In-Grid-third (at_06 at.In-Grid-second (at_05 at.In-Grid))) in
+    sym (bytes_after (all_of c.in-Grid.targets c.in-Grid-second.obstacles c.in-Grid-third.times c.in-Grid-fourth.values) here (λ e. omega arith))
 
 pub returns : goal.returns
-returns c = sym (all_found (found (goal.at.returns c).In-Grid-fourth) (at_the_end (goal.at.returns c).In-Grid-fourth) (omega arith))
+returns c =
+    let at = goal.at.returns c in
+    let here = at_the_end at.In-Grid-fourth (at_07 at.In-Grid-third (at_06 at.In-Grid-second (at_05 at.In-Grid))) in
+    sym (all_found (all_of c.in-Grid.targets c.in-Grid-second.obstacles c.in-Grid-third.times c.in-Grid-fourth.values) here (omega arith))

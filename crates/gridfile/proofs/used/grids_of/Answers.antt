@@ -29,20 +29,18 @@ pub returns-in-8 : goal.returns-in-8
 unfolding any grids_of
 returns-in-8 c = ap (λ (s : ℕ). has_of (grids_of s)) (sym c.in-8.is)
 
-five : (k : ℕ) → 1 ≤ k → (k ≡ 1 → ⊥) → (k ≡ 2 → ⊥) → (k ≡ 3 → ⊥) → (k ≡ 4 → ⊥) → 5 ≤ k
-five k low not-1 not-2 not-3 not-4 = omega arith
-
 pub returns-in-5 : goal.returns-in-5
 unfolding any grids_of
 returns-in-5 c =
-    let rest = c.in_default-1.rest in
-    let low = five c.args.search c.if-search-lt1.false rest.0.0.0.0.1 rest.0.0.0.1 rest.0.0.1 rest.0.1 in
-    of_three (λ s. record { targets = true; obstacles = false; times = true; values = true } ≡ has_of (grids_of s)) 5 c.args.search low c.if-search-lt8.true refl refl refl
+    of_three (λ s. record { targets = true; obstacles = false; times = true; values = true } ≡ has_of (grids_of s)) 5 c.args.search (omega arith) (omega arith) refl refl refl
 
+-- Whatever is no search has no grids.
 pub returns-in_default : goal.returns-in_default
 unfolding any
-returns-in_default c = let rest = c.in_default-1.rest in ap has_of (sym (grids_of_no_search c.args.search (λ e. rest.0.0.0.0.1 e) (λ e. rest.0.0.0.1 e) (λ e. rest.0.0.1 e) (λ e. rest.0.1 e) (λ e. omega arith) (λ e. omega arith) (λ e. omega arith) (λ e. rest.1 e)))
+returns-in_default c =
+    ap has_of (sym (grids_of_no_search c.args.search (λ e. omega arith) (λ e. omega arith) (λ e. omega arith) (λ e. omega arith) (λ e. omega arith) (λ e. omega arith) (λ e. omega arith) (λ e. omega arith)))
 
 pub returns-in_default-2 : goal.returns-in_default-2
 unfolding any
-returns-in_default-2 c = let rest = c.in_default-1.rest in ap has_of (sym (grids_of_no_search c.args.search (λ e. rest.0.0.0.0.1 e) (λ e. rest.0.0.0.1 e) (λ e. rest.0.0.1 e) (λ e. rest.0.1 e) (λ e. omega arith) (λ e. omega arith) (λ e. omega arith) (λ e. rest.1 e)))
+returns-in_default-2 c =
+    ap has_of (sym (grids_of_no_search c.args.search (λ e. omega arith) (λ e. omega arith) (λ e. omega arith) (λ e. omega arith) (λ e. omega arith) (λ e. omega arith) (λ e. omega arith) (λ e. omega arith)))

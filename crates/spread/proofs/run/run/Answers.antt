@@ -1,0 +1,22 @@
+-- `run::run` meets its contract. Before each turn so many cells were taken. Assumes nothing.
+use mathlib.Core.Path.{refl, ap}
+use Prim.Native.Nat.{◌*◌}
+use Rattle.spread.proofs.Making.{taking_next, none_took, one_took, more_took, ran_empty, ran_all}
+use Rattle.spread.proofs.run.run.Goals as goal
+
+pub loop-takes-init : goal.loop-takes-init
+loop-takes-init c = none_took c.requires.good
+
+pub returns-then-is_empty : goal.returns-then-is_empty
+returns-then-is_empty c = ran_empty (more_took c.loop-takes.invariant refl c.take_inner_by_rule-some.ensures) c.is_empty.ensures c.if-is_empty.true
+
+pub loop-takes-preserved-then-takes-most : goal.loop-takes-preserved-then-takes-most
+loop-takes-preserved-then-takes-most c =
+    let so_far = more_took c.loop-takes.invariant refl c.take_inner_by_rule-some.ensures in
+    one_took so_far c.if-takes-most.true (taking_next so_far.made.good c.requires.setting c.is_empty.ensures c.if-is_empty.false).some c.take_edge_by_rule-took.ensures
+
+pub loop-takes-preserved : goal.loop-takes-preserved
+loop-takes-preserved c = more_took c.loop-takes.invariant refl c.take_inner_by_rule-some.ensures
+
+pub returns : goal.returns
+returns c = ran_all c.loop-takes.invariant (ap (λ n. n * n) c.cell_count-cells.ensures) c.requires.ready c.loop-takes-test.false

@@ -1,0 +1,9 @@
+-- `run::spread` meets its contract. Assumes nothing.
+use Rattle.spread.proofs.Running.{begun_runs, spread_ends}
+use Rattle.spread.proofs.run.spread.Goals as goal
+
+pub run-requires : goal.run-requires
+run-requires c = begun_runs c.requires c.begin_cells-ring.ensures
+
+pub returns : goal.returns
+returns c = spread_ends c.requires c.begin_cells-ring.ensures c.run.ensures

@@ -1,0 +1,12 @@
+-- `take_inner::take_inner` meets its contract. Before each turn so many cells were taken. Assumes nothing.
+use Rattle.spread.proofs.Making.{taking_inner, none_took, one_took}
+use Rattle.spread.proofs.take_inner.take_inner.Goals as goal
+
+pub loop-takes-init : goal.loop-takes-init
+loop-takes-init c = none_took c.requires.some.good
+
+pub take_inner_cell-took-requires : goal.take_inner_cell-took-requires
+take_inner_cell-took-requires c = taking_inner c.loop-takes.invariant.made.good c.requires.some.setting c.requires.numbered c.is_next_inner.ensures c.if-is_next_inner.true
+
+pub loop-takes-preserved : goal.loop-takes-preserved
+loop-takes-preserved c = one_took c.loop-takes.invariant c.loop-takes-test.true (c.is_next_inner.ensures.some c.if-is_next_inner.true) c.take_inner_cell-took.ensures
