@@ -1,0 +1,12 @@
+use Prim.Native.Nat.{◌*◌, ◌-◌}
+use Rattle.rules.specs.Sizes.{count}
+use Rattle.spread.specs.Steps.{terrain}
+use Rattle.spread.specs.Buffers.{buffers}
+use Rattle.sums.proofs.Gains.{GainTurn}
+use Rattle.sums.proofs.gain.run_gaining.Given as goal
+
+abbrev pub invariant-loop-search : goal.invariant-loop-search
+invariant-loop-search l = GainTurn l.search (terrain l.obstacles l.times) l.amount l.initial.answer (buffers l.initial.distances l.initial.carried l.initial.marks l.initial.queue l.initial.waiting) (buffers l.distances l.carried l.marks l.queue l.waiting) l.answer l.added l.takes
+
+abbrev pub decreases-loop-search : goal.decreases-loop-search
+decreases-loop-search l = count l.search.size * count l.search.size - l.takes
