@@ -17,8 +17,8 @@ const FLOATS: usize = FIELD_MAX / 4;
 
 // Answers the request of a file.
 pub fn answer_request(request: Request, input: &[u8], output: &mut [u8]) -> usize
-    requires input_value { parsed input.now ≡ Good request }
-    requires longest_in_bounds { longest ≤ length output.old }
+    requires asked { parsed input.now ≡ Good request }
+    requires room { longest ≤ length output.old }
     ensures { OutcomeSent (outcome_of (written_out input.now (Good request))) output.old output.new result }
 {
     let mut targets = [0u8; BYTES];

@@ -89,7 +89,7 @@ pub fn search(
     output: &mut [u8],
 ) -> usize
     requires small { Small request.size }
-    requires longest_in_bounds { longest ≤ length output.old }
+    requires room { longest ≤ length output.old }
     ensures { OutcomeSent (found request targets.now obstacles.now times.now values.now) output.old output.new result }
 {
     let size = request.size;

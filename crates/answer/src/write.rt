@@ -23,8 +23,8 @@ fn write_refusal(refusal: Refusal, output: &mut [u8]) -> usize
 
 // Writes the answer of a search, with its answer grid where it was accepted.
 pub fn write_answer(answer: Answer, cells: &[f32], output: &mut [u8]) -> usize
-    requires cells_len_bound { length cells.now ≤ most_file_cells }
-    requires longest_in_bounds { longest ≤ length output.old }
+    requires few_cells { length cells.now ≤ most_file_cells }
+    requires room { longest ≤ length output.old }
     ensures { OutcomeSent (stated answer cells.now) output.old output.new result }
 {
     match answer {

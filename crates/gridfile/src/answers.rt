@@ -56,8 +56,8 @@ pub fn write_refused_at(status: u8, index: u32, output: &mut [u8]) -> usize
 
 // Writes the answer of an accepted call, and gives its length.
 pub fn write_accepted(takes: u64, grid: &[f32], output: &mut [u8]) -> usize
-    requires grid_bound { 4 * length grid.now < 65536 }
-    requires grid_in_bounds { 18 + 4 * length grid.now ≤ length output.old }
+    requires few { 4 * length grid.now < 65536 }
+    requires room { 18 + 4 * length grid.now ≤ length output.old }
     ensures { Written (answer_file (accepted takes grid.now)) output.old output.new result }
 {
     let next = put_number_field(output, 0, tags::STATUS, 0, 1);

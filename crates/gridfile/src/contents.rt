@@ -8,8 +8,8 @@ use binary32::of_bits;
 
 // Copies a part of the file to the front of a slice.
 pub fn copy_bytes(file: &[u8], part: Part, cells: &mut [u8])
-    requires len_in_bounds { part.start + part.len ≤ length file.now }
-    requires len_in_bounds_2 { part.len ≤ length cells.old }
+    requires inside { part.start + part.len ≤ length file.now }
+    requires room { part.len ≤ length cells.old }
     ensures { cells.new ≡ bytes_in file.now part ++ drop part.len cells.old }
 {
     let start = part.start;
@@ -21,8 +21,8 @@ pub fn copy_bytes(file: &[u8], part: Part, cells: &mut [u8])
 
 // Reads the floats of a part of the file to the front of a slice.
 pub fn read_floats(file: &[u8], part: Part, cells: &mut [f32])
-    requires len_in_bounds { part.start + part.len ≤ length file.now }
-    requires len_in_bounds_2 { part.len / 4 ≤ length cells.old }
+    requires inside { part.start + part.len ≤ length file.now }
+    requires room { part.len / 4 ≤ length cells.old }
     ensures { cells.new ≡ floats_in file.now part ++ drop (part.len / 4) cells.old }
 {
     let start = part.start;

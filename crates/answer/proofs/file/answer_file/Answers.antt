@@ -1,0 +1,8 @@
+-- `file::answer_file` meets its contract: the file is judged first, and then its request is answered. Assumes nothing.
+use mathlib.Core.Path.{sym, ◌∙◌}
+use Rattle.answer.proofs.Sending.{short_refused, of_file}
+use Rattle.answer.proofs.file.answer_file.Goals as goal
+
+pub returns-in_default : goal.returns-in_default
+returns-in_default c =
+    of_file c.args.input.now (sym c.parse-parsed.ensures ∙ c.in_default.is) c.if-output-lt-LONGEST.false (short_refused 8 c.write_refused.ensures)
