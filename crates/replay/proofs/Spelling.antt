@@ -9,8 +9,7 @@ use borrow.Author.Tests.{lt-ltb, le-ltb}
 use lib.ListN.{length, take, drop, get_or, length-drop}
 use lib.Pow.{pow-add, pow_mono}
 use lib.Seq.{take-suc, get_or-drop}
-use Rattle.io.specs.Digits.{last_digits, hex_digit_ascii}
-use Rattle.replay.specs.Words.{Spelled}
+use Rattle.replay.specs.Words.{Spelled, last_digits, hex_digit_ascii}
 
 -- The bytes of the digits: `0` to `9` and `a` to `f`.
 pub decimal_glyph : (b : ℕ) → 48 ≤ b → b ≤ 57 → hex_digit_ascii (b - 48) ≡ b

@@ -1,7 +1,7 @@
 // Runs the oracle's stored answers through the library and compares every bit: a line for each file.
 #![tactic(auto)]
 
-ghost use Rattle.std.specs.Prelude.{◌≡◌, length};
+ghost use Rattle.std.specs.Prelude.{◌≡◌, ◌≤◌, length, IfOk};
 
 mod answers;
 mod buffers;
@@ -15,7 +15,9 @@ mod settings;
 mod stored;
 mod words;
 
-use libc::STDOUT_FILENO;
+use std::io::Read;
+use std::rt::Files;
+use std::{fs, io};
 use words::At;
 
 // What a case came to: it agrees and ends before this byte, it differs, or this byte is malformed.
@@ -90,22 +92,11 @@ fn replay_text(text: &[u8]) -> Outcome {
 }
 
 // Prints what a text came to.
-fn print_outcome(outcome: Outcome) {
+fn print_outcome<R: Print>(rt: &R, outcome: Outcome) -> io::Result<()> {
     match outcome {
-        Outcome::Agree(count) => {
-            io::print_decimal(STDOUT_FILENO, count);
-            io::write_all(STDOUT_FILENO, b" cases agree\n");
-        }
-        Outcome::Differs(count) => {
-            io::write_all(STDOUT_FILENO, b"case ");
-            io::print_decimal(STDOUT_FILENO, count);
-            io::write_all(STDOUT_FILENO, b" differs\n");
-        }
-        Outcome::Malformed(pos) => {
-            io::write_all(STDOUT_FILENO, b"malformed at byte ");
-            io::print_decimal(STDOUT_FILENO, pos as u64);
-            io::write_all(STDOUT_FILENO, b"\n");
-        }
+        Outcome::Agree(count) => println!(rt; "{count} cases agree"),
+        Outcome::Differs(count) => println!(rt; "case {count} differs"),
+        Outcome::Malformed(pos) => println!(rt; "malformed at byte {pos}"),
     }
 }
 
@@ -116,39 +107,51 @@ fn text_buffer() -> [u8; 524_288]
     [0; 524_288]
 }
 
-// Reads a whole file and replays it. A file that fills the buffer may be cut, so it is not run.
-fn replay_open(fd: i32) {
-    let mut buffer = text_buffer();
-    let length = io::read_full(fd, &mut buffer);
-    if length == buffer.len() {
-        io::write_all(STDOUT_FILENO, b"too long to be read\n");
-        return;
+// Reads until the buffer is full or the file ends, and answers how many bytes it put at the
+// buffer's start.
+fn read_full<F: Read>(file: &mut F, buffer: &mut [u8]) -> io::Result<usize>
+    ensures { IfOk result (λ n. n ≤ length buffer.new) }
+{
+    let mut done = 0;
+    while done < buffer.len() {
+        let read = file.read(&mut buffer[done..])?;
+        if read == 0 {
+            break;
+        }
+        done += read;
     }
-    print_outcome(replay_text(&buffer[..length]));
+    Ok(done)
+}
+
+// Reads a whole file and replays it. A file that fills the buffer may be cut, so it is not run.
+fn replay_open<R: Print, F: Read>(rt: &R, file: &mut F) -> io::Result<()> {
+    let mut buffer = text_buffer();
+    let length = read_full(file, &mut buffer)?;
+    if length == buffer.len() {
+        return println!(rt; "too long to be read");
+    }
+    print_outcome(rt, replay_text(&buffer[..length]))
 }
 
 // Replays the file at a path, and prints its line.
-fn replay(path: &[u8], name: &[u8]) {
-    io::write_all(STDOUT_FILENO, name);
-    let fd = os::open_read(path);
-    if fd < 0 {
-        io::write_all(STDOUT_FILENO, b"can't be opened\n");
-        return;
+fn replay<R: Files + Print>(rt: &R, path: &str, name: &str) -> io::Result<()> {
+    print!(rt; "{name}")?;
+    match fs::open(rt, path) {
+        Ok(mut file) => replay_open(rt, &mut file),
+        Err(_) => println!(rt; "can't be opened"),
     }
-    replay_open(fd);
-    libc::close(fd);
 }
 
 // A line for each search, one for document 01's small grids, and one for the cases on which two programs once differed.
-fn main() {
-    replay(b"search-1.txt", b"search 1: ");
-    replay(b"search-2.txt", b"search 2: ");
-    replay(b"search-3.txt", b"search 3: ");
-    replay(b"search-4.txt", b"search 4: ");
-    replay(b"search-5.txt", b"search 5: ");
-    replay(b"search-6.txt", b"search 6: ");
-    replay(b"search-7.txt", b"search 7: ");
-    replay(b"search-8.txt", b"search 8: ");
-    replay(b"small.txt", b"small grids: ");
-    replay(b"differed.txt", b"once differed: ");
+fn main(rt: HostRuntime) -> io::Result<()> {
+    replay(&rt, "search-1.txt", "search 1: ")?;
+    replay(&rt, "search-2.txt", "search 2: ")?;
+    replay(&rt, "search-3.txt", "search 3: ")?;
+    replay(&rt, "search-4.txt", "search 4: ")?;
+    replay(&rt, "search-5.txt", "search 5: ")?;
+    replay(&rt, "search-6.txt", "search 6: ")?;
+    replay(&rt, "search-7.txt", "search 7: ")?;
+    replay(&rt, "search-8.txt", "search 8: ")?;
+    replay(&rt, "small.txt", "small grids: ")?;
+    replay(&rt, "differed.txt", "once differed: ")
 }

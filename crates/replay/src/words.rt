@@ -1,7 +1,6 @@
 // The words of the text: what must stand at a place, and the numbers that stand there.
 ghost use Rattle.std.specs.Prelude.{◌+◌, ◌-◌, ◌≤◌, ◌<◌, ◌≡◌, true, false, negsuc};
-ghost use Rattle.io.specs.Digits.{hex_digit_ascii};
-ghost use Rattle.replay.specs.Words.{Stands, Spelled};
+ghost use Rattle.replay.specs.Words.{Stands, Spelled, hex_digit_ascii};
 
 // A place in the text: the index of a byte, and whether all that was read before it had the form.
 // Where a word has not, the place stays at that word, and nothing after it is read.
