@@ -7,7 +7,6 @@ use Prim.Native.Nat.{ℕ, ◌+◌, ◌-◌, ◌≤◌, ◌<◌}
 use native.Mathlib.Omega.{arith}
 use borrow.Author.Tests.{leb-true, leb-false}
 use lib.Dec.{leb}
-use lib.IntN.{ℤ}
 use lib.ListN.{get_or, take, drop}
 use lib.Seq.{take_all, get_or-take, get_or-drop}
 use Rattle.cells.specs.Neighbours.{CellOf, place_of}
@@ -16,11 +15,9 @@ use Rattle.cells.specs.declared.neighbours.Neighbour.{Neighbour}
 use Rattle.cells.specs.declared.neighbours.Neighbour.TheVariants.{At, Outside}
 use Rattle.cells.specs.declared.neighbours.Place.{Place}
 use Rattle.cells.proofs.NeighbourLists.{one_more}
-use Rattle.fifo.specs.Walk.{In}
 use Rattle.fifo.specs.Machine.{scan}
 use Rattle.fifo.proofs.Induction.{scan_append}
 use Rattle.rules.specs.Cells.{offsets, neighbour, neighbours, keep}
-use Rattle.rules.specs.Sizes.{count}
 use Rattle.rules.specs.Values.{Carried}
 use Rattle.rules.proofs.Neighbours.{neighbours_inside}
 use Rattle.spread.specs.declared.search.Search.{Search}

@@ -1,5 +1,5 @@
 -- Takes that were made one after the other, and what they come to. Assumes nothing.
-use mathlib.Core.Bool.{Bool, true, false, not}
+use mathlib.Core.Bool.{Bool, true, false}
 use mathlib.Core.List.{List, [], ◌∷◌}
 use mathlib.Core.Logic.{⊎_elim}
 use mathlib.Core.Path.{◌≡◌, refl, sym, ap, ◌∙◌, subst}
@@ -17,7 +17,7 @@ use Rattle.rules.specs.Values.{Carried}
 use Rattle.spread.specs.declared.search.Rule.{Rule}
 use Rattle.spread.specs.declared.search.Search.{Search}
 use Rattle.spread.specs.declared.take.TakenCell.{TakenCell}
-use Rattle.spread.specs.Steps.{Terrain, Numbers, numbers_of, Follows}
+use Rattle.spread.specs.Steps.{Terrain, Numbers, numbers_of}
 use Rattle.spread.specs.Buffers.{Buffers, Good, Holds}
 use Rattle.spread.specs.Loop.{Setting, Looking, SaysNextInner, Taking, TakingBy, TakingInner, TookCell, Ready, Made, TakingSome, TakingSomeBy, TookUpTo, Ran}
 use Rattle.spread.proofs.Running.{Turn, ended_turn}

@@ -16,13 +16,13 @@ out : (c : Joined-then-not-in_bounds) → Finds out_of_bounds (c.args.a ∷ c.ar
 out c =
     let a_means = c.in_bounds.ensures in
     elim c.then-not-in_bounds.branch [
-      then-not-in_bounds-via-then-not-in_bounds w ↦ finds_first (said_not a_means (ap not w.if-not-in_bounds.true))
-    | then-not-in_bounds-via-else-not-in_bounds+then-not-in_bounds-2 w ↦
-        finds_later (said_not a_means (ap not w.if-not-in_bounds.false)) (finds_first (said_not w.in_bounds-else-not-in_bounds.ensures (ap not w.if-not-in_bounds-2.true)))
-    | then-not-in_bounds-via-else-not-in_bounds+else-not-in_bounds-2+then-not-in_bounds-3 w ↦
-        finds_later (said_not a_means (ap not w.if-not-in_bounds.false))
-        (finds_later (said_not w.in_bounds-else-not-in_bounds.ensures (ap not w.if-not-in_bounds-2.false))
-        (finds_first (said_not w.in_bounds-else-not-in_bounds-2.ensures (ap not w.if-not-in_bounds-3.true))))
+      | then-not-in_bounds-via-then-not-in_bounds w ↦ finds_first (said_not a_means (ap not w.if-not-in_bounds.true))
+      | then-not-in_bounds-via-else-not-in_bounds+then-not-in_bounds-2 w ↦
+          finds_later (said_not a_means (ap not w.if-not-in_bounds.false)) (finds_first (said_not w.in_bounds-else-not-in_bounds.ensures (ap not w.if-not-in_bounds-2.true)))
+      | then-not-in_bounds-via-else-not-in_bounds+else-not-in_bounds-2+then-not-in_bounds-3 w ↦
+          finds_later (said_not a_means (ap not w.if-not-in_bounds.false))
+          (finds_later (said_not w.in_bounds-else-not-in_bounds.ensures (ap not w.if-not-in_bounds-2.false))
+          (finds_first (said_not w.in_bounds-else-not-in_bounds-2.ensures (ap not w.if-not-in_bounds-3.true))))
     ]
 
 within : (c : Else-not-in_bounds-3) → Finds out_of_bounds (c.args.a ∷ c.args.b ∷ c.args.c ∷ []) false
@@ -35,9 +35,9 @@ differ : (c : Joined-then-not-same_size) → Finds (differs c.args.a) (c.args.b 
 differ c =
     let b_means = c.same_size.ensures in
     elim c.then-not-same_size.branch [
-      then-not-same_size-via-then-not-same_size w ↦ finds_first (said_not b_means (ap not w.if-not-same_size.true))
-    | then-not-same_size-via-else-not-same_size+then-not-same_size-2 w ↦
-        finds_later (said_not b_means (ap not w.if-not-same_size.false)) (finds_first (said_not w.same_size-else-not-same_size.ensures (ap not w.if-not-same_size-2.true)))
+      | then-not-same_size-via-then-not-same_size w ↦ finds_first (said_not b_means (ap not w.if-not-same_size.true))
+      | then-not-same_size-via-else-not-same_size+then-not-same_size-2 w ↦
+          finds_later (said_not b_means (ap not w.if-not-same_size.false)) (finds_first (said_not w.same_size-else-not-same_size.ensures (ap not w.if-not-same_size-2.true)))
     ]
 
 agree : (c : Else-not-same_size-2) → Finds (differs c.args.a) (c.args.b ∷ c.args.c ∷ []) false

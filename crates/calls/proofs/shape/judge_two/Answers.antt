@@ -15,9 +15,9 @@ out : (c : Joined-then-not-in_bounds) → Finds out_of_bounds (c.args.a ∷ c.ar
 out c =
     let a_means = c.in_bounds.ensures in
     elim c.then-not-in_bounds.branch [
-      then-not-in_bounds-via-then-not-in_bounds w ↦ finds_first (said_not a_means (ap not w.if-not-in_bounds.true))
-    | then-not-in_bounds-via-else-not-in_bounds+then-not-in_bounds-2 w ↦
-        finds_later (said_not a_means (ap not w.if-not-in_bounds.false)) (finds_first (said_not w.in_bounds-else-not-in_bounds.ensures (ap not w.if-not-in_bounds-2.true)))
+      | then-not-in_bounds-via-then-not-in_bounds w ↦ finds_first (said_not a_means (ap not w.if-not-in_bounds.true))
+      | then-not-in_bounds-via-else-not-in_bounds+then-not-in_bounds-2 w ↦
+          finds_later (said_not a_means (ap not w.if-not-in_bounds.false)) (finds_first (said_not w.in_bounds-else-not-in_bounds.ensures (ap not w.if-not-in_bounds-2.true)))
     ]
 
 within : (c : Else-not-in_bounds-2) → Finds out_of_bounds (c.args.a ∷ c.args.b ∷ []) false

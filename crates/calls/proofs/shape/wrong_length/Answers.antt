@@ -9,8 +9,8 @@ returns-then-any_other c =
     let args = c.args in
     let counted = c.cell_count-n.ensures in
     elim c.then-any_other.branch [
-      then-any_other-via-then-any_other w ↦ input_wrong args.size args.input_lengths.now args.lent_lengths.now args.queue_length counted (said c.any_other.ensures w.if-any_other.true)
-    | then-any_other-via-else-any_other+then-any_other-2 w ↦ slice_wrong args.size args.input_lengths.now args.lent_lengths.now args.queue_length counted (said w.any_other-else-any_other.ensures w.if-any_other-2.true)
+      | then-any_other-via-then-any_other w ↦ input_wrong args.size args.input_lengths.now args.lent_lengths.now args.queue_length counted (said c.any_other.ensures w.if-any_other.true)
+      | then-any_other-via-else-any_other+then-any_other-2 w ↦ slice_wrong args.size args.input_lengths.now args.lent_lengths.now args.queue_length counted (said w.any_other-else-any_other.ensures w.if-any_other-2.true)
     ]
 
 pub returns : goal.returns

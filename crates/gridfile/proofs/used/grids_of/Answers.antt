@@ -1,7 +1,7 @@
 -- `used::grids_of` meets its contract. Assumes nothing.
 use mathlib.Core.Path.{◌≡◌, refl, ap, sym}
 use mathlib.Core.Bool.{true, false}
-use Prim.Native.Nat.{ℕ, ◌≤◌}
+use Prim.Native.Nat.{ℕ}
 use Rattle.rules.specs.Sizes.{any}
 use Rattle.gridfile.specs.Request.{grids_of}
 use Rattle.gridfile.specs.Lookups.{has_of}

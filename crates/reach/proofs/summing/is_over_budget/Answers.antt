@@ -1,5 +1,4 @@
 -- `summing::is_over_budget` meets its contract: before each turn none of the entries that were passed is above the budget. Assumes nothing.
-use mathlib.Core.Bool.{false}
 use mathlib.Core.Path.{sym, ◌∙◌}
 use native.Mathlib.Omega.{arith}
 use Rattle.rules.proofs.Any.{any_none, any_more, any_passes}
