@@ -1,6 +1,6 @@
 /*
  * Extraction sheets for forwarders: eight searches over grids of a forest, proved in Rattle, for C.
- * Link libhaul_c.a, which `rt staticlib haul_c` writes to target/staticlib. It is for x86-64 processors and has no
+ * Link libhaul_c.a, which `.ci/archive` puts in target/staticlib. It is for x86-64 processors and has no
  * instruction beyond SSE2, which all of them have. It links into position-independent executables, and takes nothing
  * from libc but memcpy and memset.
  *

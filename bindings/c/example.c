@@ -2,7 +2,7 @@
  * A small stand with two landings and a ditch: how far is each cell from the nearest landing, if a machine may go
  * between two ditch cells that meet at a corner, and if it may not?
  *
- *     rt staticlib haul_c
+ *     .ci/archive
  *     cc -Iinclude bindings/c/example.c target/staticlib/libhaul_c.a -o example && ./example
  */
 #include <haul.h>

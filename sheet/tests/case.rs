@@ -20,7 +20,7 @@ fn bytes(hex: &str) -> Vec<u8> {
 /// The program's answer to a grid file.
 fn haul(file: &Path) -> Vec<u8> {
     let program = Path::new(env!("CARGO_MANIFEST_DIR")).join("../target/bin/haul");
-    assert!(program.exists(), "{} is not there: run `rt check haul`", program.display());
+    assert!(program.exists(), "{} is not there: run `.ci/archive haul`", program.display());
     let mut child =
         Command::new(program).stdin(Stdio::piped()).stdout(Stdio::piped()).spawn().expect("the program runs");
     child.stdin.take().unwrap().write_all(&fs::read(file).unwrap()).unwrap();

@@ -36,14 +36,14 @@ fn file(entries: &[String]) -> String {
         let entries = entries.join(" ∷\n    ");
         format!(
             "
-unfoldable pub stored-{at} : List Entry
+unfoldable pub stored_{at} : List Entry
 unfolding f
-stored-{at} =
+stored_{at} =
     {entries} ∷ []
 
-pub stored-answers-{at} : all-heard stored-{at} ≡ all-said stored-{at}
-unfolding stored-{at} rules-computing
-stored-answers-{at} = refl
+pub stored_answers_{at} : all_heard stored_{at} ≡ all_said stored_{at}
+unfolding stored_{at} rules_computing
+stored_answers_{at} = refl
 "
         )
     });
@@ -53,33 +53,33 @@ stored-answers-{at} = refl
 
 const HEADER: &str = "\
 use mathlib.Core.Bool.{true, false}
-use mathlib.Core.List.{List, [], _∷_}
-use mathlib.Core.Path.{_≡_, refl}
+use mathlib.Core.List.{List, [], ◌∷◌}
+use mathlib.Core.Path.{◌≡◌, refl}
 use Prim.Native.Nat.{ℕ}
 use lib.IntN.{pos, negsuc}
-use lib.Ieee.{Float, binary32, ofBits}
-use Rattle·rules.specs.declared.BarrierDiagonals.the-variants.{Include, Exclude}
-use Rattle·rules.specs.Sizes.{number, number-at}
-use Rattle·rules.specs.Distances.{outcome-1, outcome-2, outcome-3}
-use Rattle·rules.specs.Values.{outcome-4, outcome-5, outcome-6}
-use Rattle·rules.specs.Sums.{outcome-7, outcome-8}
-use Rattle·rules.specs.Computing.{rules-computing}
-use Rattle·rules.proofs.Grids.{takes-and-answer, refusal, Entry, all-heard, all-said, lent}
+use lib.Ieee.{Float, binary32, of_bits}
+use Rattle.rules.specs.declared.BarrierDiagonals.TheVariants.{Include, Exclude}
+use Rattle.rules.specs.Sizes.{number, number_at}
+use Rattle.rules.specs.Distances.{outcome_1, outcome_2, outcome_3}
+use Rattle.rules.specs.Values.{outcome_4, outcome_5, outcome_6}
+use Rattle.rules.specs.Sums.{outcome_7, outcome_8}
+use Rattle.rules.specs.Computing.{rules_computing}
+use Rattle.rules.proofs.Grids.{takes_and_answer, refusal, Entry, all_heard, all_said, lent}
 
 f : ℕ → Float
-f b = ofBits binary32 b
+f b = of_bits binary32 b
 ";
 
 fn entry(case: &Case, answer: &Answer) -> String {
     let number = case.search.number();
-    let mut words = vec![format!("outcome-{number}")];
+    let mut words = vec![format!("outcome_{number}")];
     words.extend(case.targets.as_ref().map(|targets| grid(targets, |cell| cell.to_string())));
     words.extend(case.obstacles.as_ref().map(|obstacles| grid(obstacles, |cell| cell.to_string())));
     words.extend(case.times.as_ref().map(|times| grid(times, |cell| float(cell.to_bits()))));
     words.extend(case.values.as_ref().map(|values| grid(values, |cell| float(cell.to_bits()))));
     let limit = float(case.limit.to_bits());
     if case.search.has_cell_size() {
-        words.push(format!("(record {{ «cell_size» = {}; limit = {limit} }})", float(case.cell_size.to_bits())));
+        words.push(format!("(record {{ cell_size = {}; limit = {limit} }})", float(case.cell_size.to_bits())));
     } else if case.search.has_limit() {
         words.push(limit);
     }
@@ -107,8 +107,8 @@ fn work_buffers(search: Search) -> usize {
 fn said(answer: &Answer) -> String {
     match answer {
         Answer::Refused { number, index: None } => format!("refusal (number {number})"),
-        Answer::Refused { number, index: Some(index) } => format!("refusal (number-at {number} {index})"),
-        Answer::Accepted { takes, grid } => format!("takes-and-answer {takes} ({})", list(grid, |&bits| float(bits))),
+        Answer::Refused { number, index: Some(index) } => format!("refusal (number_at {number} {index})"),
+        Answer::Accepted { takes, grid } => format!("takes_and_answer {takes} ({})", list(grid, |&bits| float(bits))),
     }
 }
 
