@@ -69,11 +69,11 @@ fn read_grids(
     times: &mut [f32],
     values: &mut [f32],
 ) -> Grids
-    ensures len_in_bounds { result.targets.len ≤ length targets.old }
-    ensures len_in_bounds_2 { result.obstacles.len ≤ length obstacles.old }
-    ensures len_in_bounds_3 { result.times.len ≤ length times.old }
-    ensures len_in_bounds_4 { result.values.len ≤ length values.old }
-    ensures n_le_most_answer_cells { result.n ≤ most_answer_cells }
+    ensures targets_fit { result.targets.len ≤ length targets.old }
+    ensures obstacles_fit { result.obstacles.len ≤ length obstacles.old }
+    ensures times_fit { result.times.len ≤ length times.old }
+    ensures values_fit { result.values.len ≤ length values.old }
+    ensures few_cells { result.n ≤ most_answer_cells }
 {
     let of_targets = grids::byte_grid(text, at, has_targets(search), b"targets ", targets);
     let at = of_targets.at;
@@ -105,11 +105,11 @@ pub fn read_case(
     bits: &mut [u32],
 ) -> Case
     requires { most_answer_cells ≤ length bits.old }
-    ensures len_in_bounds { result.grids.targets.len ≤ length targets.old }
-    ensures len_in_bounds_2 { result.grids.obstacles.len ≤ length obstacles.old }
-    ensures len_in_bounds_3 { result.grids.times.len ≤ length times.old }
-    ensures len_in_bounds_4 { result.grids.values.len ≤ length values.old }
-    ensures n_le_most_answer_cells { result.grids.n ≤ most_answer_cells }
+    ensures targets_fit { result.grids.targets.len ≤ length targets.old }
+    ensures obstacles_fit { result.grids.obstacles.len ≤ length obstacles.old }
+    ensures times_fit { result.grids.times.len ≤ length times.old }
+    ensures values_fit { result.grids.values.len ≤ length values.old }
+    ensures few_cells { result.grids.n ≤ most_answer_cells }
 {
     let settings = settings::head(text, At { pos, ok: true });
     let at = settings.at;

@@ -108,11 +108,11 @@ pub fn agrees(
     values: &[f32],
     bits: &[u32],
 ) -> bool
-    requires len_in_bounds { read.targets.len ≤ length targets.now }
-    requires len_in_bounds_2 { read.obstacles.len ≤ length obstacles.now }
-    requires len_in_bounds_3 { read.times.len ≤ length times.now }
-    requires len_in_bounds_4 { read.values.len ≤ length values.now }
-    requires n_le_most_answer_cells { (read.n ≤ most_answer_cells) × (read.n ≤ length bits.now) }
+    requires targets_fit { read.targets.len ≤ length targets.now }
+    requires obstacles_fit { read.obstacles.len ≤ length obstacles.now }
+    requires times_fit { read.times.len ≤ length times.now }
+    requires values_fit { read.values.len ≤ length values.now }
+    requires few_cells { (read.n ≤ most_answer_cells) × (read.n ≤ length bits.now) }
 {
     let grid = read.targets;
     let targets_len = grid.len;

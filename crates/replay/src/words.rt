@@ -96,8 +96,8 @@ fn digit(byte: u8) -> u64
 // The decimal number at a place: its digits up to the first byte that is none. It is malformed
 // where there is no digit, and where it is more than `most`.
 pub fn decimal(text: &[u8], at: At, most: u64) -> Number
-    ensures value_le_most { result.value ≤ most }
-    ensures pos_lt_pos { result.at.ok ≡ true → (at.pos < result.at.pos) × Spelled 10 text.now at.pos result.at.pos result.value }
+    ensures at_most { result.value ≤ most }
+    ensures spelled { result.at.ok ≡ true → (at.pos < result.at.pos) × Spelled 10 text.now at.pos result.at.pos result.value }
 {
     if !at.ok {
         return Number { value: 0, at };
