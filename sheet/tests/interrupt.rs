@@ -2,7 +2,7 @@
 mod common;
 use std::fs;
 use std::os::unix::process::ExitStatusExt;
-use std::path::{Path, PathBuf};
+use std::path::Path;
 use std::process::{Child, Command, ExitStatus, Stdio};
 use std::thread;
 use std::time::{Duration, Instant};
@@ -12,7 +12,7 @@ use common::{cells, folder, grid};
 const WORDS: &str = "distance --targets landings.asc --out out.asc --picture pipe";
 const OLD: &str = "an older sheet";
 
-fn stand(name: &str) -> PathBuf {
+fn stand(name: &str) -> common::Folder {
     let folder = folder(name);
     grid(&folder, "landings.asc", "1 0 0");
     fs::write(folder.join("out.asc"), OLD).unwrap();

@@ -9,7 +9,7 @@ use common::{cells, failure, folder, grid, said};
 const WORDS: &str = "distance --targets landings.asc";
 
 /// A folder with landings, an older sheet and a folder in it.
-fn stand(name: &str) -> PathBuf {
+fn stand(name: &str) -> common::Folder {
     let folder = folder(name);
     grid(&folder, "landings.asc", "1 0 0");
     fs::write(folder.join("old.asc"), "an older sheet").unwrap();

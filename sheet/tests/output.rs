@@ -7,7 +7,7 @@ use common::{failure, folder, grid, said};
 
 const OLD: &str = "an older sheet";
 
-fn stand(name: &str) -> std::path::PathBuf {
+fn stand(name: &str) -> common::Folder {
     let folder = folder(name);
     grid(&folder, "landings.asc", "1 0 0");
     fs::write(folder.join("out.asc"), OLD).unwrap();

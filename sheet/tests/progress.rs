@@ -2,7 +2,7 @@
 mod common;
 use std::ffi::OsString;
 use std::fs;
-use std::path::{Path, PathBuf};
+use std::path::Path;
 use std::process::{Command, Output, Stdio};
 use std::thread;
 use std::time::Duration;
@@ -231,7 +231,7 @@ fn in_a_terminal(folder: &Path, line: &str) -> Output {
 }
 
 /// Even ground of so many cells to a side.
-fn even(name: &str, side: usize) -> PathBuf {
+fn even(name: &str, side: usize) -> common::Folder {
     let folder = folder(name);
     grid(&folder, "ones.asc", &vec![vec!["1"; side].join(" "); side].join("|"));
     folder

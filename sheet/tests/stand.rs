@@ -28,7 +28,7 @@ const SHEETS: [(&str, &str); 5] = [
 ];
 
 /// The sheets, made anew in a folder beside copies of the stand's grids.
-fn make(name: &str) -> PathBuf {
+fn make(name: &str) -> common::Folder {
     let folder = folder(name);
     generator::write_stand(&folder);
     for (sheet, search) in SHEETS {
@@ -56,7 +56,7 @@ fn the_stored_sheets_hold() {
         assert!(made == fs::read_to_string(examples("sheets").join(&file)).unwrap(), "{file} differs");
 
         let [made, stored] =
-            [folder.clone(), examples("sheets")].map(|folder| Picture::read(&folder.join(format!("{name}.png"))));
+            [folder.to_path_buf(), examples("sheets")].map(|folder| Picture::read(&folder.join(format!("{name}.png"))));
         assert_eq!((made.width, made.height), (stored.width, stored.height), "{name}.png");
         assert!(made.pixels == stored.pixels, "{name}.png differs");
     }

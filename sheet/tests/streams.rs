@@ -3,7 +3,7 @@ mod common;
 use std::fs::{self, File};
 use std::io::Read;
 use std::os::unix::fs::{FileTypeExt, symlink};
-use std::path::{Path, PathBuf};
+use std::path::Path;
 use std::process::{Command, Output, Stdio};
 use std::thread;
 
@@ -13,7 +13,7 @@ const WORDS: &str = "distance --targets landings.asc";
 const SHEET: &str = "ncols 3\nnrows 1\nxllcorner 0\nyllcorner 0\ncellsize 1\nNODATA_value -9999\n0.0 1 2\n";
 const PNG: &[u8] = b"\x89PNG\r\n";
 
-fn stand(name: &str) -> PathBuf {
+fn stand(name: &str) -> common::Folder {
     let folder = folder(name);
     grid(&folder, "landings.asc", "1 0 0");
     folder
