@@ -5,7 +5,7 @@ use Rattle.std.specs.Float.{binary32}
 use Rattle.std.specs.Float.Ieee.{to_bits}
 use Rattle.rules.specs.Sizes.{number, number_at, Outcome, refused, accepted}
 
--- Numbers are little_endian: so many bytes of a number.
+-- Numbers are little-endian: so many bytes of a number.
 unfoldable pub little_endian : ℕ → ℕ → List ℕ
 little_endian zero n = []
 little_endian (suc count) n = n % 256 ∷ little_endian count (n / 256)

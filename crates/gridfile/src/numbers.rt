@@ -1,4 +1,4 @@
-// Numbers are little_endian.
+// Numbers are little-endian.
 ghost use Rattle.std.specs.Prelude.{◌≡◌, ◌+◌, ◌≤◌, length};
 ghost use Rattle.gridfile.specs.Fields.{u16_of, u32_of};
 ghost use Rattle.gridfile.specs.Answers.{little_endian, Stored};
