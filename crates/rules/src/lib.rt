@@ -8,10 +8,18 @@
 #![tactic(auto)]
 
 // Rows and columns are signed 32-bit numbers.
-#[derive(Clone, Copy)]
+#[derive(Clone, Copy, PartialEq, Eq)]
 pub struct Size {
     pub rows: i32,
     pub cols: i32,
+}
+
+// A grid that is lent: its size, and its cells, row after row. Whether it has as many cells as its size says is for a call to
+// judge.
+#[derive(Clone, Copy)]
+pub struct Grid<'a, T> {
+    pub size: Size,
+    pub cells: &'a [T],
 }
 
 // Cell size and limit travel together as one record.
@@ -22,7 +30,7 @@ pub struct Spacing {
 }
 
 // Whether a way may pass between two obstacles that meet at a corner.
-#[derive(Clone, Copy)]
+#[derive(Clone, Copy, PartialEq, Eq)]
 pub enum BarrierDiagonals {
     Include,
     Exclude,
