@@ -13,8 +13,8 @@ mod ring;
 mod sizes;
 
 pub use neighbours::{
-    Neighbour, Neighbours, OFFSETS, Place, interior_neighbours, is_interior, neighbour_at,
-    neighbours_of, nth_neighbour, place_of,
+    Neighbours, OFFSETS, Place, STRAIGHT, interior_neighbours, is_interior, neighbour_at,
+    neighbours_of, place_of,
 };
 pub use ring::{Ring, Taken, is_empty, push, take};
 pub use sizes::{CELLS_MAX, SIDE_MAX, cell_count, in_bounds, same_size};
