@@ -17,7 +17,7 @@ use Rattle.rules.proofs.Decided.{equation_decides}
 use Rattle.cells.specs.Neighbours.{CellOf, Place, place_of}
 use Rattle.cells.specs.Storing.{InGrid, Leads}
 use Rattle.cells.specs.Interior.{SaysInterior}
-use Rattle.cells.specs.Ring.{Ring, Taken, contents, RingGood, SaysEmpty, NewRing, Pushed, Took}
+use Rattle.cells.specs.Ring.{Ring, contents, RingGood, SaysEmpty, NewRing, Pushed, Took}
 use Rattle.cells.proofs.Edges.{inside}
 
 -- ---- the neighbour at one offset
@@ -94,6 +94,6 @@ pushed_decides p q = record { waiting = equation_decides p.added q.added; slots 
 
 -- `take`: the cell and those that still wait. It writes to no slot.
 pub took_decides :
-    {slots : List ℕ} {ring : Ring} {a b : Taken} → Took slots ring a → Took slots ring b
-    → (a.cell ≡ b.cell) × (contents slots a.ring ≡ contents slots b.ring)
+    {slots : List ℕ} {ring ring₁ ring₂ : Ring} {a b : ℕ} → Took slots ring a ring₁ → Took slots ring b ring₂
+    → (a ≡ b) × (contents slots ring₁ ≡ contents slots ring₂)
 took_decides p q = let same = sym p.split ∙ q.split in (cc, cc)
