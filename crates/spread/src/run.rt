@@ -8,7 +8,7 @@ use crate::begin::begin_cells;
 use crate::search::Search;
 use crate::take_edge::take_edge_by_rule;
 use crate::take_inner::take_inner_by_rule;
-use cells::{Ring, cell_count, is_empty};
+use cells::{Ring, cell_count};
 
 // Takes cells until nothing waits; the answer is how many were taken. Those at no edge are taken in a loop of their own.
 fn run(
@@ -45,7 +45,7 @@ fn run(
         waiting = some.ring;
         takes += some.takes;
         if takes < most {
-            if is_empty(waiting) {
+            if waiting.is_empty() {
                 return takes;
             }
             let took = take_edge_by_rule(

@@ -1,12 +1,12 @@
 // The neighbours of a cell that may be at an edge are tried as the table leads to them: no list of them is made.
-ghost use Rattle.cells.specs.Storing.{cells_at};
+ghost use Rattle.std.specs.Prelude.{option_to_list};
 ghost use Rattle.spread.specs.Steps.{terrain, numbers, steps_by, all_steps};
 ghost use Rattle.spread.specs.Buffers.{buffers, scanning, Does};
 ghost use Rattle.spread.specs.Loop.{left_label, EnteringThere, ScanningAll};
 
 use crate::relax::{Left, relax};
 use crate::search::Search;
-use cells::{Neighbour, Ring, nth_neighbour, place_of};
+use cells::{OFFSETS, Ring, neighbour_at, place_of};
 
 // Tries what stands at an offset, if anything does.
 fn relax_there(
@@ -18,7 +18,7 @@ fn relax_there(
     obstacles: &[u8],
     times: &[f32],
     left: Left,
-    there: Neighbour,
+    there: Option<u32>,
     distances: &mut [f32],
     carried: &mut [f32],
     marks: &mut [u8],
@@ -26,16 +26,16 @@ fn relax_there(
     ring: Ring,
 ) -> Ring
     requires { EnteringThere search (numbers formula avoided carrying) (terrain obstacles.now times.now) left.cell there (buffers distances.old carried.old marks.old queue.old ring) }
-    ensures { Does search (scanning (left_label search left) (steps_by search (terrain obstacles.now times.now) diagonal left.cell (cells_at there)))
+    ensures { Does search (scanning (left_label search left) (steps_by search (terrain obstacles.now times.now) diagonal left.cell (option_to_list there)))
         (buffers distances.old carried.old marks.old queue.old ring)
         (buffers distances.new carried.new marks.new queue.new result) }
 {
     match there {
-        Neighbour::At(cell) => relax(
+        Some(cell) => relax(
             search, formula, avoided, carrying, diagonal, obstacles, times, left, cell, distances,
             carried, marks, queue, ring,
         ),
-        Neighbour::Outside => ring,
+        None => ring,
     }
 }
 
@@ -64,7 +64,7 @@ pub fn scan_edge(
     let mut k: usize = 0;
     while k < 8 {
         let diagonal = 4 <= k;
-        let there = nth_neighbour(search.size, place, k);
+        let there = neighbour_at(search.size, place, OFFSETS[k]);
         waiting = relax_there(
             search, formula, avoided, carrying, diagonal, obstacles, times, left, there, distances,
             carried, marks, queue, waiting,
