@@ -1,4 +1,4 @@
-// Bytes at a place.
+// Bytes at a place. Numbers are little-endian: std's `from_le_bytes` and `to_le_bytes` have them.
 ghost use Rattle.std.specs.Prelude.{◌≡◌, ◌+◌, ◌≤◌, length, take, drop};
 ghost use Rattle.gridfile.specs.Answers.{Stored};
 
