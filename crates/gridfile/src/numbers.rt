@@ -12,7 +12,8 @@ pub fn bytes_at<const N: usize>(file: &[u8], at: usize) -> [u8; N]
     bytes
 }
 
-// Stores bytes at a place, and gives the place after them.
+// Stores bytes at a place, and gives the place after them. (A struct of the output and the place would
+// be no plainer: each of its methods would have to promise that it keeps the same `&mut`.)
 pub fn put(output: &mut [u8], at: usize, bytes: &[u8]) -> usize
     requires { at + length bytes.now ≤ length output.old }
     ensures { Stored bytes.now at output.old output.new result }
