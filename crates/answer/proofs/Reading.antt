@@ -8,7 +8,9 @@ use lib.Dec.{leb}
 use lib.ListN.{length, take}
 use lib.Seq.{length-take-le, take_all}
 use Rattle.rules.specs.Sizes.{refused, number}
-use Rattle.gridfile.specs.declared.request.Parsed.{Parsed}
+use Rattle.std.proofs.Common.{Result}
+use Rattle.gridfile.specs.declared.request.Request.{Request}
+use Rattle.gridfile.specs.declared.request.BadFile.{BadFile}
 use Rattle.gridfile.specs.Contents.{written_out}
 use Rattle.gridfile.specs.Answers.{answer_file}
 use Rattle.gridfile.proofs.Choices.{by_cases}
@@ -18,7 +20,7 @@ use Rattle.answer.specs.Answering.{outcome_of, answer_to}
 
 -- A file that is too long is refused, whatever is in it.
 long_refused : (file : List ℕ) → longest_file < length file → answer_to file ≡ answer_file (refused (number 8))
-long_refused file long = ap (λ (p : Parsed). answer_file (outcome_of (written_out file p))) (too_long file long)
+long_refused file long = ap (λ (p : Result Request BadFile). answer_file (outcome_of (written_out file p))) (too_long file long)
 
 -- Proof: a file that was cut is too long, and so is what was read of it.
 pub read_enough : (file : List ℕ) → answer_to (take (suc longest_file) file) ≡ answer_to file

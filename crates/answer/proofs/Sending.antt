@@ -17,9 +17,9 @@ use Rattle.calls.specs.Answer.{refusal_number}
 use Rattle.calls.specs.Numbered.{numbered_as}
 use Rattle.calls.specs.Promise.{Slice, Promised}
 use Rattle.calls.proofs.Promises.{takes_one, refusal_no_takes}
+use Rattle.std.proofs.Common.{Result, Ok}
 use Rattle.gridfile.specs.declared.request.Request.{Request}
-use Rattle.gridfile.specs.declared.request.Parsed.{Parsed}
-use Rattle.gridfile.specs.declared.request.Parsed.TheVariants.{Good}
+use Rattle.gridfile.specs.declared.request.BadFile.{BadFile}
 use Rattle.gridfile.specs.Request.{most_file_cells, parsed}
 use Rattle.gridfile.specs.Contents.{bytes_in, floats_in, written_out, asked}
 use Rattle.gridfile.specs.Answers.{Written, answer_file}
@@ -71,7 +71,7 @@ module _ {before after : List ℕ} {count : ℕ} where
       (file : List ℕ) (request : Request) {targets obstacles : List ℕ} {times values : List Float}
       → targets ≡ bytes_in file request.grids.targets → obstacles ≡ bytes_in file request.grids.obstacles
       → times ≡ floats_in file request.grids.times → values ≡ floats_in file request.grids.values
-      → OutcomeSent (found request targets obstacles times values) before after count → OutcomeSent (outcome_of (written_out file (Good request))) before after count
+      → OutcomeSent (found request targets obstacles times values) before after count → OutcomeSent (outcome_of (written_out file (Ok request))) before after count
   on_grids file request {targets} {obstacles} {times} {values} ts os tis vs sent =
       subst (λ (v : List Float). OutcomeSent (found request (bytes_in file request.grids.targets) (bytes_in file request.grids.obstacles) (floats_in file request.grids.times) v) before after count) vs
       (subst (λ (ti : List Float). OutcomeSent (found request (bytes_in file request.grids.targets) (bytes_in file request.grids.obstacles) ti values) before after count) tis
@@ -79,10 +79,10 @@ module _ {before after : List ℕ} {count : ℕ} where
       (subst (λ (t : List ℕ). OutcomeSent (found request t obstacles times values) before after count) ts sent)))
 
   -- Of a file that was read so.
-  pub of_file : (file : List ℕ) {is : Parsed} → parsed file ≡ is → longest ≤ length before → OutcomeSent (outcome_of (written_out file is)) before after count → Answered file before after count
+  pub of_file : (file : List ℕ) {is : Result Request BadFile} → parsed file ≡ is → longest ≤ length before → OutcomeSent (outcome_of (written_out file is)) before after count → Answered file before after count
   of_file file {is} read long sent =
       subst (λ (bytes : List ℕ). Sent bytes before after count)
-      (ap (λ (p : Parsed). answer_file (outcome_of (written_out file p))) (sym read) ∙ ap (λ (t : Bool). cond t (answer_file (outcome_of (asked file))) []) (sym (le-leb longest (length before) long)))
+      (ap (λ (p : Result Request BadFile). answer_file (outcome_of (written_out file p))) (sym read) ∙ ap (λ (t : Bool). cond t (answer_file (outcome_of (asked file))) []) (sym (le-leb longest (length before) long)))
       sent
 
 -- An output that is too short is left as it is.

@@ -7,7 +7,7 @@ use Rattle.calls.specs.declared.answer.Answer.{Answer}
 use Rattle.calls.specs.declared.answer.Answer.TheVariants.{Accepted, Refused}
 use Rattle.calls.specs.Answer.{refusal_number}
 use Rattle.gridfile.specs.declared.request.Request.{Request}
-use Rattle.gridfile.specs.Request.{most_file_cells}
+use Rattle.gridfile.specs.Request.{search_number, most_file_cells}
 use Rattle.gridfile.specs.Answers.{answer_file}
 use Rattle.answer.specs.Answering.{searched, Sent}
 
@@ -37,4 +37,4 @@ OutcomeSent outcome before after count = Sent (answer_file outcome) before after
 
 -- The outcome of a request, on its grids.
 abbrev pub found : Request → (targets obstacles : List ℕ) → (times values : List Float) → Outcome
-found request = searched request.search request.diagonals request.adjacent request.size request.spacing
+found request = searched (search_number request.search) request.diagonals request.adjacent request.size request.spacing

@@ -2,7 +2,7 @@
 ghost use Rattle.answer.specs.Answering.{Answered};
 
 use crate::grids::answer_request;
-use gridfile::{FIELD_MAX, FILE_CELLS_MAX, HEAD_END, Parsed, parse, write_refused};
+use gridfile::{BadFile, FIELD_MAX, FILE_CELLS_MAX, HEAD_END, parse, write_refused};
 
 // The bytes of the longest answer: the status, the takes, and a grid of 1,024 cells.
 pub const LONGEST: usize = 4 + 11 + 3 + 4 * FILE_CELLS_MAX;
@@ -12,9 +12,6 @@ pub const LONGEST: usize = 4 + 11 + 3 + 4 * FILE_CELLS_MAX;
 // beyond the bounds; each longer one is refusal 8.)
 pub const LONGEST_FILE: usize = HEAD_END + 3 * (3 + FIELD_MAX);
 
-// The number that the file form is refused with.
-const BAD_FILE: u8 = 8;
-
 // Writes the answer of a file to the front of the output, and gives its length. Where the output is
 // shorter than the longest answer nothing is written, and the length is 0.
 pub fn answer_file(input: &[u8], output: &mut [u8]) -> usize
@@ -23,9 +20,8 @@ pub fn answer_file(input: &[u8], output: &mut [u8]) -> usize
     if output.len() < LONGEST {
         return 0;
     }
-    let parsed = parse(input);
-    let Parsed::Good(request) = parsed else {
-        return write_refused(BAD_FILE, output);
-    };
-    answer_request(request, input, output)
+    match parse(input) {
+        Ok(request) => answer_request(request, input, output),
+        Err(BadFile) => write_refused(BadFile::NUMBER, None, output),
+    }
 }

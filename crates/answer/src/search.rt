@@ -7,7 +7,7 @@ use crate::write::write_answer;
 use calls::Answer;
 use cells::cell_count;
 use distances::{distance_with_obstacles, distances_up_to, travel_distances_up_to};
-use gridfile::{FILE_CELLS_MAX, Request};
+use gridfile::{FILE_CELLS_MAX, Request, Search};
 use sums::{sum_targets_within_travel_distance, sum_within_travel_distance};
 use values::{
     value_at_closest_less_than_travel_target, value_at_closest_target,
@@ -20,7 +20,7 @@ const CELLS: usize = FILE_CELLS_MAX;
 // One slot more than cells.
 const SLOTS: usize = CELLS + 1;
 
-// Runs the search that the request asks for, which is 1 to 8.
+// Runs the search that the request asks for.
 fn run(
     request: Request,
     targets: &[u8],
@@ -43,21 +43,24 @@ fn run(
     let limit = spacing.limit;
     let diagonals = request.diagonals;
     let include_adjacent = request.adjacent;
-    let search = request.search;
-    match search {
-        1 => distances_up_to(size, targets, spacing, cells, marks, queue),
-        2 => distance_with_obstacles(
+    match request.search {
+        Search::DistancesUpTo => distances_up_to(size, targets, spacing, cells, marks, queue),
+        Search::DistanceWithObstacles => distance_with_obstacles(
             size, targets, size, obstacles, spacing, diagonals, cells, marks, queue,
         ),
-        3 => travel_distances_up_to(size, targets, size, times, limit, cells, marks, queue),
-        4 => value_at_closest_target(size, targets, size, values, cells, distances, marks, queue),
-        5 => value_at_closest_travel_target(
+        Search::TravelDistancesUpTo => travel_distances_up_to(
+            size, targets, size, times, limit, cells, marks, queue,
+        ),
+        Search::ValueAtClosestTarget => value_at_closest_target(
+            size, targets, size, values, cells, distances, marks, queue,
+        ),
+        Search::ValueAtClosestTravelTarget => value_at_closest_travel_target(
             size, targets, size, times, size, values, cells, distances, marks, queue,
         ),
-        6 => value_at_closest_less_than_travel_target(
+        Search::ValueAtClosestLessThanTravelTarget => value_at_closest_less_than_travel_target(
             size, targets, size, times, size, values, limit, cells, distances, marks, queue,
         ),
-        7 => sum_within_travel_distance(
+        Search::SumWithinTravelDistance => sum_within_travel_distance(
             size,
             targets,
             size,
@@ -73,7 +76,7 @@ fn run(
             adjacent,
             queue,
         ),
-        _ => sum_targets_within_travel_distance(
+        Search::SumTargetsWithinTravelDistance => sum_targets_within_travel_distance(
             size, times, size, values, limit, cells, distances, marks, added, queue,
         ),
     }

@@ -7,7 +7,7 @@ ghost use Rattle.answer.specs.Answering.{longest};
 ghost use Rattle.answer.specs.Lending.{stated, OutcomeSent};
 
 use calls::{Answer, Numbered, Refusal, number_of};
-use gridfile::{write_accepted, write_refused, write_refused_at};
+use gridfile::{write_accepted, write_refused};
 
 // Writes the number of a refusal, with its index where it has one.
 fn write_refusal(refusal: Refusal, output: &mut [u8]) -> usize
@@ -16,8 +16,8 @@ fn write_refusal(refusal: Refusal, output: &mut [u8]) -> usize
 {
     let numbered = number_of(refusal);
     match numbered {
-        Numbered::Plain(status) => write_refused(status, output),
-        Numbered::At(status, index) => write_refused_at(status, index, output),
+        Numbered::Plain(status) => write_refused(status, None, output),
+        Numbered::At(status, index) => write_refused(status, Some(index), output),
     }
 }
 

@@ -1,10 +1,9 @@
 -- Tests and what they choose. Assumes nothing.
-use mathlib.Core.Path.{◌≡◌, refl, sym, subst}
+use mathlib.Core.Path.{◌≡◌, refl}
 use mathlib.Core.Bool.{Bool, true, false, cond, ◌&&◌, ◌||◌}
 use mathlib.Core.List.{List, [], ◌∷◌}
-use Prim.Native.Nat.{ℕ, ◌+◌, ◌≤◌, ◌<◌}
-use native.Mathlib.Omega.{arith}
-use borrow.Author.Tests.{eqb-true, eqb-false, ne_eqb}
+use Prim.Native.Nat.{ℕ}
+use borrow.Author.Tests.{eqb-true}
 use lib.Dec.{eqb}
 use Rattle.rules.proofs.Tests.{and_both}
 use Rattle.gridfile.specs.Request.{same, grids_of}
@@ -56,19 +55,3 @@ for_grids P of_1 of_2 of_3 of_4 of_567 of_8 of_none search =
     (either P (eqb search 4) of_4
     (either P (eqb search 5 || eqb search 6 || eqb search 7) of_567
     (either P (eqb search 8) of_8 of_none)))))
-
--- A number between two others, by its three values.
-pub of_three : (P : ℕ → Type 0) (a k : ℕ) → a ≤ k → k < a + 3 → P a → P (a + 1) → P (a + 2) → P k
-of_three P a k low high first second third =
-    by_cases (P k) (eqb k a) (λ e. subst P (sym (eqb-true k a e)) first)
-    (λ ne. by_cases (P k) (eqb k (a + 1)) (λ e. subst P (sym (eqb-true k (a + 1) e)) second)
-    (λ ne'.
-    let apart = eqb-false k a ne in
-    let apart' = eqb-false k (a + 1) ne' in
-    let e : a + 2 ≡ k = omega arith in
-    subst P e third))
-
--- A number that is no search has no grids.
-pub grids_of_no_search : (k : ℕ) → (k ≡ 1 → ⊥) → (k ≡ 2 → ⊥) → (k ≡ 3 → ⊥) → (k ≡ 4 → ⊥) → (k ≡ 5 → ⊥) → (k ≡ 6 → ⊥) → (k ≡ 7 → ⊥) → (k ≡ 8 → ⊥) → grids_of k ≡ []
-unfolding grids_of
-grids_of_no_search k n1 n2 n3 n4 n5 n6 n7 n8 = simp (ne_eqb k 1 n1, ne_eqb k 2 n2, ne_eqb k 3 n3, ne_eqb k 4 n4, ne_eqb k 5 n5, ne_eqb k 6 n6, ne_eqb k 7 n7, ne_eqb k 8 n8)

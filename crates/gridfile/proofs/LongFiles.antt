@@ -8,8 +8,9 @@ use borrow.Author.Tests.{eq-eqb}
 use lib.Dec.{eqb}
 use lib.ListN.{length, drop, length-drop}
 use Rattle.gridfile.specs.Fields.{Part, part, Field, field, Fields, cut, whole, and_then, fields_after, fields_from, content_of, tags}
-use Rattle.gridfile.specs.Request.{Grids, Request, Parsed, Good, Bad, grids_of, by_tag, longest_field, grids_fit, parsed}
-use Rattle.gridfile.specs.Lookups.{Exactly, grids_in}
+use Rattle.gridfile.specs.Request.{Grids, Request, BadFile, bad, grids_of, by_tag, longest_field, grids_fit, parsed}
+use Rattle.gridfile.specs.Lookups.{grids_in}
+use Rattle.std.proofs.Common.{Some, Result, Ok, Err}
 use Rattle.rules.proofs.Tests.{never}
 use Rattle.gridfile.proofs.Choices.{same_is, for_grids}
 use Rattle.gridfile.proofs.Heads.{head_within}
@@ -110,7 +111,7 @@ grids_short fields search are t o ti v =
 
 -- ---- files
 
-found_short : (search long : ℕ) (w : Fields) (g : Grids) → Spans 0 long w → grids_in search w ≡ Exactly g → grids_fit g ≡ true → long ≤ 3 * longest_grid
+found_short : (search long : ℕ) (w : Fields) (g : Grids) → Spans 0 long w → grids_in search w ≡ Some g → grids_fit g ≡ true → long ≤ 3 * longest_grid
 found_short search long w g spans e fit =
     let found = exactly_found search w g e in
     let fields = found.fields in
@@ -123,7 +124,7 @@ found_short search long w g spans e fit =
 abbrev pub longest_file : ℕ
 longest_file = 24 + 3 * longest_grid
 
-pub good_short : (file : List ℕ) (r : Request) → parsed file ≡ Good r → length file ≤ longest_file
+pub good_short : (file : List ℕ) (r : Request) → parsed file ≡ Ok r → length file ≤ longest_file
 good_short file r e =
     let c = came file r e in
     let head = head_within file c.begins in
@@ -132,9 +133,9 @@ good_short file r e =
     omega arith
 
 -- A longer one is refusal 8.
-pub too_long : (file : List ℕ) → longest_file < length file → parsed file ≡ Bad
+pub too_long : (file : List ℕ) → longest_file < length file → parsed file ≡ bad
 too_long file long = go (parsed file) refl
   where
-    go : (p : Parsed) → parsed file ≡ p → p ≡ Bad
-    go (Good r) e = let short = good_short file r e in absurd (omega arith)
-    go Bad e = refl
+    go : (p : Result Request BadFile) → parsed file ≡ p → p ≡ bad
+    go (Ok r) e = let short = good_short file r e in absurd (omega arith)
+    go (Err x) e = refl

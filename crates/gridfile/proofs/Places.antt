@@ -10,7 +10,8 @@ use lib.Dec.{leb, eqb}
 use lib.ListN.{length, drop, length-drop, drop_of_length-le}
 use lib.Seq.{drop-cons, drop-drop}
 use Rattle.gridfile.specs.Fields.{Part, part, Field, field, Fields, cut, whole, and_then, byte, u16_of, fields_after, fields_from}
-use Rattle.gridfile.specs.Lookups.{Sought, Content, Missing, field_at}
+use Rattle.gridfile.specs.Lookups.{field_at}
+use Rattle.std.proofs.Common.{Option, Some, None}
 use Rattle.rules.proofs.Tests.{never}
 use Rattle.gridfile.proofs.Choices.{by_cases}
 
@@ -94,12 +95,12 @@ module _ (file : List ℕ) (at : ℕ) where
       (λ few. subst Q (sym (too_few some (leb-false (at + 3) (length file) few))) if_cut)
 
   -- A field that is looked for at a place, beside the fields from there on: it is the first of them, or none is left, or the file is cut, or another comes first.
-  module _ (tag : ℕ) (Q : Sought → Fields → Type 0)
-      (found : (n : ℕ) → at + 3 + n ≤ length file → Q (Content (part (at + 3) n)) (and_then (field tag (part (at + 3) n)) (fields_from file (at + 3 + n))))
-      (none : Q Missing (whole [])) (broken : Q Missing cut)
-      (other : (f : Field) (rest : Fields) → eqb f.tag tag ≡ false → Q Missing (and_then f rest)) where
-    carried : {s t : Sought} {v w : Fields} → s ≡ t → v ≡ w → Q t w → Q s v
-    carried {s} {t} {v} {w} e e' q = subst (λ (x : Sought). Q x v) (sym e) (subst (λ (x : Fields). Q t x) (sym e') q)
+  module _ (tag : ℕ) (Q : Option Part → Fields → Type 0)
+      (found : (n : ℕ) → at + 3 + n ≤ length file → Q (Some (part (at + 3) n)) (and_then (field tag (part (at + 3) n)) (fields_from file (at + 3 + n))))
+      (none : Q None (whole [])) (broken : Q None cut)
+      (other : (f : Field) (rest : Fields) → eqb f.tag tag ≡ false → Q None (and_then f rest)) where
+    carried : {s t : Option Part} {v w : Fields} → s ≡ t → v ≡ w → Q t w → Q s v
+    carried {s} {t} {v} {w} e e' q = subst (λ (x : Option Part). Q x v) (sym e) (subst (λ (x : Fields). Q t x) (sym e') q)
 
     pub look : Q (field_at file at tag) (fields_from file at)
     look =
@@ -116,13 +117,13 @@ module _ (file : List ℕ) (at : ℕ) where
         (λ some. carried (simp few) (too_few (leb-false _ _ some) (leb-false _ _ few)) broken))
 
 -- The same of the field alone: it is there, whole, or it is missing.
-pub looked_for : (file : List ℕ) (at tag : ℕ) (Q : Sought → Type 0) → ((n : ℕ) → at + 3 + n ≤ length file → Q (Content (part (at + 3) n))) → Q Missing → Q (field_at file at tag)
+pub looked_for : (file : List ℕ) (at tag : ℕ) (Q : Option Part → Type 0) → ((n : ℕ) → at + 3 + n ≤ length file → Q (Some (part (at + 3) n))) → Q None → Q (field_at file at tag)
 looked_for file at tag Q found missing = look file at tag (λ s w. Q s) found missing missing (λ f rest e. missing)
 
 -- The content of a field that is found ends within the file.
-pub content_within : (file : List ℕ) (at tag : ℕ) {p : Part} → field_at file at tag ≡ Content p → p.start + p.len ≤ length file
+pub content_within : (file : List ℕ) (at tag : ℕ) {p : Part} → field_at file at tag ≡ Some p → p.start + p.len ≤ length file
 content_within file at tag {p} e =
-    looked_for file at tag (λ s. s ≡ Content p → p.start + p.len ≤ length file)
+    looked_for file at tag (λ s. s ≡ Some p → p.start + p.len ≤ length file)
     (λ n room e'. let same : part (at + 3) n ≡ p = cc in subst (λ (q : Part). q.start + q.len ≤ length file) same room)
     (λ e'. never cc)
     e

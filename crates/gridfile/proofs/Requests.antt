@@ -11,11 +11,13 @@ use lib.Signed.{mag}
 use lib.ListN.{length, drop, length-drop}
 use Rattle.rules.specs.Sizes.{count}
 use Rattle.gridfile.specs.Fields.{Part, part, Field, field, Fields, cut, whole, and_then, fields_after, fields_from, content_of, tags}
-use Rattle.gridfile.specs.Request.{Head, Grids, Request, Good, grids_of, same, by_tag, head_of, flags_fit, numbers_fit, most_file_cells, few_cells, head_fits, longest_field, small_bytes, small_floats, grids_fit, as_request, parsed}
-use Rattle.gridfile.specs.Lookups.{has_head, Found, Exactly, Breach, grids_in}
+use Rattle.gridfile.specs.Request.{Head, Grids, Request, search_number, search_of, grids_of, same, by_tag, head_of, flags_fit, numbers_fit, most_file_cells, few_cells, head_fits, longest_field, small_bytes, small_floats, grids_fit, as_request, parsed}
+use Rattle.gridfile.specs.Lookups.{has_head, grids_in}
+use Rattle.std.proofs.Common.{Option, Some, None, Ok}
 use Rattle.rules.proofs.Tests.{and_both, never}
 use Rattle.gridfile.proofs.Choices.{by_cases, chosen_first, either, all_four}
 use Rattle.gridfile.proofs.Places.{cut_short}
+use Rattle.gridfile.proofs.SearchNumbers.{number_from, number_to}
 use Rattle.gridfile.proofs.Heads.{requested, as_judged, head_within}
 
 -- A part of the file ends within it.
@@ -33,8 +35,8 @@ pub record FloatsPart (file : List ℕ) (p : Part) : Type 0 where
   pub fours : p.len % 4 ≡ 0
 
 pub record Usable (file : List ℕ) (r : Request) : Type 0 where
-  pub search_from : 1 ≤ r.search
-  pub search_to : r.search ≤ 8
+  pub search_from : 1 ≤ search_number r.search
+  pub search_to : search_number r.search ≤ 8
   pub rows_natural : r.size.rows ≡ pos (mag r.size.rows)
   pub cols_natural : r.size.cols ≡ pos (mag r.size.cols)
   pub few : count r.size ≤ most_file_cells
@@ -93,15 +95,15 @@ pub record FoundIn (search : ℕ) (w : Fields) (g : Grids) : Type 0 where
   pub exact : same (tags fields) (grids_of search) ≡ true
   pub by_tags : by_tag fields ≡ g
 
-pub exactly_found : (search : ℕ) (w : Fields) (g : Grids) → grids_in search w ≡ Exactly g → FoundIn search w g
+pub exactly_found : (search : ℕ) (w : Fields) (g : Grids) → grids_in search w ≡ Some g → FoundIn search w g
 unfolding grids_in
 exactly_found search cut g e = never cc
 exactly_found search (whole fields) g e =
     let passed = chosen_first (same (tags fields) (grids_of search)) e (λ is. never cc) in
-    let is : Exactly (by_tag fields) ≡ Exactly g = passed.1 in
+    let is : Some (by_tag fields) ≡ Some g = passed.1 in
     record { fields = fields; uncut = refl; exact = passed.0; by_tags = cc }
 
-found_inside : (file : List ℕ) (search : ℕ) (w : Fields) (g : Grids) → Ends (length file) w → grids_in search w ≡ Exactly g → AllInside file g
+found_inside : (file : List ℕ) (search : ℕ) (w : Fields) (g : Grids) → Ends (length file) w → grids_in search w ≡ Some g → AllInside file g
 found_inside file search w g ends e =
     let found = exactly_found search w g e in
     let all = subst (Ends (length file)) found.uncut ends in
@@ -149,21 +151,21 @@ module _ (file : List ℕ) where
   -- How a request came about.
   pub record Came (r : Request) : Type 0 where
     pub begins : has_head file ≡ true
-    pub exact : grids_in head.search (fields_from file 24) ≡ Exactly r.grids
+    pub exact : grids_in head.search (fields_from file 24) ≡ Some r.grids
     pub fits : head_fits head ≡ true
     pub small : grids_fit r.grids ≡ true
-    pub is : r ≡ as_request head r.grids
+    pub is : r ≡ as_request (search_of head.search) head r.grids
 
-  came_from : (r : Request) (found : Found) → has_head file ≡ true → grids_in head.search (fields_from file 24) ≡ found → requested head found ≡ Good r → Came r
-  came_from r Breach begins exact e = never cc
-  came_from r (Exactly g) begins exact e =
+  came_from : (r : Request) (found : Option Grids) → has_head file ≡ true → grids_in head.search (fields_from file 24) ≡ found → requested head found ≡ Ok r → Came r
+  came_from r None begins exact e = never cc
+  came_from r (Some g) begins exact e =
       let passed = chosen_first (head_fits head && grids_fit g) e (λ is. never cc) in
       let both = and_both (head_fits head) (grids_fit g) passed.0 in
-      let is : Good (as_request head g) ≡ Good r = passed.1 in
-      let is' : as_request head g ≡ r = cc in
+      let is : Ok (as_request (search_of head.search) head g) ≡ Ok r = passed.1 in
+      let is' : as_request (search_of head.search) head g ≡ r = cc in
       subst Came is' (record { begins = begins; exact = exact; fits = both.0; small = both.1; is = refl })
 
-  pub came : (r : Request) → parsed file ≡ Good r → Came r
+  pub came : (r : Request) → parsed file ≡ Ok r → Came r
   came r e =
       let passed = chosen_first (has_head file) (sym (as_judged file) ∙ e) (λ is. never cc) in
       came_from r (grids_in head.search (fields_from file 24)) passed.0 refl passed.1
@@ -180,7 +182,7 @@ module _ (file : List ℕ) where
       (leb-true 1 h.search range.0, leb-true h.search 8 range.1, leb-true (h.rows * h.cols) most_file_cells parts.1)
 
   -- What a program may rely on.
-  pub usable : (r : Request) → parsed file ≡ Good r → Usable file r
+  pub usable : (r : Request) → parsed file ≡ Ok r → Usable file r
   usable r e =
       let c = came r e in
       let g = r.grids in
@@ -189,8 +191,8 @@ module _ (file : List ℕ) where
       let numbers = head_passed c.fits in
       let small = fit_are_small g c.small in
       record {
-        search_from = subst (λ (q : Request). 1 ≤ q.search) (sym c.is) numbers.0;
-        search_to = subst (λ (q : Request). q.search ≤ 8) (sym c.is) numbers.1;
+        search_from = number_from r.search;
+        search_to = number_to r.search;
         rows_natural = subst (λ (q : Request). q.size.rows ≡ pos (mag q.size.rows)) (sym c.is) refl;
         cols_natural = subst (λ (q : Request). q.size.cols ≡ pos (mag q.size.cols)) (sym c.is) refl;
         few = subst (λ (q : Request). count q.size ≤ most_file_cells) (sym c.is) numbers.2;

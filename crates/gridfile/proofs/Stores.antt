@@ -1,10 +1,14 @@
 -- Loops that store a list element by element: what is left to store, from the place that is reached, makes the slice what it is to become. Assumes nothing.
 use mathlib.Core.Path.{◌≡◌, refl, sym, ap, subst, ◌∙◌}
 use mathlib.Core.List.{List, [], ◌∷◌, ◌++◌}
-use Prim.Native.Nat.{ℕ, zero, suc, ◌+◌, ◌-◌, ◌*◌, ◌/◌, ◌%◌, ◌≤◌, ◌<◌}
+use Prim.Native.Nat.{ℕ, zero, suc, ◌+◌, ◌-◌, ◌*◌, ◌/◌, ◌≤◌, ◌<◌}
 use native.Mathlib.Omega.{arith}
 use lib.ListN.{length, get_or, take, drop, set, length-append, length-set, length-drop, drop_of_length-le}
-use lib.Seq.{sets, sets-eq, length-sets, drop-cons, length-take-le}
+use lib.Seq.{sets, sets-eq, length-sets, drop-cons, length-take-le, take_all}
+use Rattle.std.proofs.lemmas.Slice.{put_mid-paste}
+use borrow.Rule.Slice.PartMut.{put_mid}
+use Rattle.std.specs.Int.{w16, to_le_bytes}
+use Rattle.gridfile.proofs.Bytes.{two_bytes}
 use lib.Ieee.{Float, binary32, of_bits, to_bits}
 use Rattle.rules.specs.Sizes.{number_at, refused, accepted}
 use Rattle.gridfile.specs.Fields.{u32_of}
@@ -60,37 +64,17 @@ module _ {A : Type 0} where
 
 -- ---- what is left of each loop's list
 
-module _ (file : List ℕ) (start count i : ℕ) (below : i < count) where
-  pub next_byte : start + count ≤ length file → take (count - i) (drop (start + i) file) ≡ get_or file (start + i) 0 ∷ take (count - (i + 1)) (drop (start + (i + 1)) file)
-  next_byte room =
-      let e : count - i ≡ suc (count - (i + 1)) = omega arith in
-      let e' : suc (start + i) ≡ start + (i + 1) = omega arith in
-      ap (λ (k : ℕ). take k (drop (start + i) file)) e
-      ∙ ap (λ (l : List ℕ). take (suc (count - (i + 1))) l) (drop-cons file (start + i) 0 (omega arith))
-      ∙ ap (λ (k : ℕ). get_or file (start + i) 0 ∷ take (count - (i + 1)) (drop k file)) e'
-
-  pub next_float : floats_from file (start + 4 * i) (count - i) ≡ of_bits binary32 (u32_of file (start + 4 * i)) ∷ floats_from file (start + 4 * (i + 1)) (count - (i + 1))
-  unfolding floats_from
-  next_float =
-      let e : count - i ≡ suc (count - (i + 1)) = omega arith in
-      let e' : start + 4 * i + 4 ≡ start + 4 * (i + 1) = omega arith in
-      ap (λ (k : ℕ). floats_from file (start + 4 * i) k) e
-      ∙ ap (λ (k : ℕ). of_bits binary32 (u32_of file (start + 4 * i)) ∷ floats_from file k (count - (i + 1))) e'
-
-pub no_bytes : (file : List ℕ) (at count i : ℕ) → count ≤ i → take (count - i) (drop at file) ≡ []
-no_bytes file at count i end = let e : count - i ≡ 0 = omega arith in ap (λ (k : ℕ). take k (drop at file)) e
+pub next_float : (file : List ℕ) (start count i : ℕ) → i < count → floats_from file (start + 4 * i) (count - i) ≡ of_bits binary32 (u32_of file (start + 4 * i)) ∷ floats_from file (start + 4 * (i + 1)) (count - (i + 1))
+unfolding floats_from
+next_float file start count i below =
+    let e : count - i ≡ suc (count - (i + 1)) = omega arith in
+    let e' : start + 4 * i + 4 ≡ start + 4 * (i + 1) = omega arith in
+    ap (λ (k : ℕ). floats_from file (start + 4 * i) k) e
+    ∙ ap (λ (k : ℕ). of_bits binary32 (u32_of file (start + 4 * i)) ∷ floats_from file k (count - (i + 1))) e'
 
 pub no_floats : (file : List ℕ) (at count i : ℕ) → count ≤ i → floats_from file at (count - i) ≡ []
 unfolding floats_from
 no_floats file at count i end = let e : count - i ≡ 0 = omega arith in ap (λ (k : ℕ). floats_from file at k) e
-
-pub next_digit : (rest count i : ℕ) → i < count → little_endian (count - i) rest ≡ rest % 256 ∷ little_endian (count - (i + 1)) (rest / 256)
-unfolding little_endian
-next_digit rest count i below = let e : count - i ≡ suc (count - (i + 1)) = omega arith in ap (λ (k : ℕ). little_endian k rest) e
-
-pub no_digits : (rest count i : ℕ) → count ≤ i → little_endian (count - i) rest ≡ []
-unfolding little_endian
-no_digits rest count i end = let e : count - i ≡ 0 = omega arith in ap (λ (k : ℕ). little_endian k rest) e
 
 pub next_bits : (grid : List Float) (i : ℕ) (d : Float) → i < length grid → float_bytes (drop i grid) ≡ little_endian 4 (to_bits binary32 (get_or grid i d)) ++ float_bytes (drop (i + 1) grid)
 unfolding float_bytes
@@ -127,6 +111,16 @@ part_long file start count room = length-take-le count (drop start file) (omega 
 
 -- ---- fields
 
+-- Bytes that a part of a slice was made are stored there.
+pub stored_part : (before bytes : List ℕ) (at : ℕ) {now : List ℕ} → now ≡ bytes → at + length bytes ≤ length before → Stored bytes at before (put_mid at (at + length bytes - at) before now) (at + length bytes)
+stored_part before bytes at {now} is room = record {
+  held =
+      put_mid-paste at (at + length bytes - at) before now bytes (length bytes) is (omega arith) refl
+      ∙ ap (λ (l : List ℕ). take at before ++ l ++ drop (at + length bytes) before) (take_all (length bytes) bytes (omega arith))
+      ∙ sym (sets-eq bytes before at room);
+  place = refl;
+}
+
 -- Bytes stored one after the other are stored together.
 pub stored_together : {before between after : List ℕ} {at middle next : ℕ} (first second : List ℕ) → Stored first at before between middle → Stored second middle between after next → Stored (first ++ second) at before after next
 stored_together {before} {between} {after} {at} {middle} {next} first second one two =
@@ -151,15 +145,15 @@ written {bytes} {before} {after} {next} stored room =
     let place = stored.place in
     record { held = stored.held ∙ at_front before bytes (length bytes) refl room; all = omega arith }
 
--- A tag, and a length after it, make a field's head, of three bytes.
-pub tagged : (before : List ℕ) (at tag len : ℕ) {after : List ℕ} {next : ℕ} → Stored (little_endian 2 len) (at + 1) (set before at tag) after next → Stored (field_head tag len) at before after next
-tagged before at tag len {after} {next} stored =
-    let e : at + 1 ≡ suc at = omega arith in
-    let place = stored.place in
-    record {
-      held = stored.held ∙ ap (λ (k : ℕ). sets (set before at tag) k (little_endian 2 len)) e;
-      place = omega arith;
-    }
+two_digits : (tag len : ℕ) → tag ∷ get_or (little_endian 2 len) 0 0 ∷ get_or (little_endian 2 len) 1 0 ∷ [] ≡ field_head tag len
+unfolding little_endian
+two_digits tag len = refl
+
+-- A tag, and the two bytes of a length, make a field's head, of three bytes.
+pub head_stored : (tag len : ℕ) {bytes before after : List ℕ} {at next : ℕ} → bytes ≡ to_le_bytes w16 len → Stored (tag ∷ get_or bytes 0 0 ∷ get_or bytes 1 0 ∷ []) at before after next → Stored (field_head tag len) at before after next
+head_stored tag len {bytes} {before} {after} {at} {next} is stored =
+    let e : tag ∷ get_or bytes 0 0 ∷ get_or bytes 1 0 ∷ [] ≡ field_head tag len = ap (λ (l : List ℕ). tag ∷ get_or l 0 0 ∷ get_or l 1 0 ∷ []) (is ∙ two_bytes len) ∙ two_digits tag len in
+    subst (λ (l : List ℕ). Stored l at before after next) e stored
 
 pub head_long : (tag len : ℕ) → length (field_head tag len) ≡ 3
 head_long tag len = ap suc (digits_long 2 len)
@@ -170,6 +164,15 @@ number_field_long tag count n =
     let three = head_long tag count in
     let digits = digits_long count n in
     omega arith
+
+pub number_long : (count n : ℕ) {bytes : List ℕ} → bytes ≡ little_endian count n → length bytes ≡ count
+number_long count n is = ap length is ∙ digits_long count n
+
+-- The little-endian bytes of a number, as a field's content, make a field that holds it.
+pub number_stored : (tag count n : ℕ) {bytes before after : List ℕ} {at next : ℕ} → bytes ≡ little_endian count n → Stored (field_head tag (length bytes) ++ bytes) at before after next → Stored (number_field tag count n) at before after next
+number_stored tag count n {bytes} {before} {after} {at} {next} is stored =
+    let e : field_head tag (length bytes) ++ bytes ≡ number_field tag count n = ap (λ (k : ℕ). field_head tag k ++ bytes) (number_long count n is) ∙ ap (λ (l : List ℕ). field_head tag count ++ l) is in
+    subst (λ (l : List ℕ). Stored l at before after next) e stored
 
 -- A grid's field: its head says how many bytes follow.
 pub grid_stored : {before between after : List ℕ} {at middle next tag : ℕ} (grid : List Float)

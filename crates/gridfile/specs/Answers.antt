@@ -1,9 +1,9 @@
 -- Document 01, "Grid file and program": the bytes of an answer. Definitions only.
-use Rattle.std.specs.Prelude.{◌≡◌, List, [], ◌∷◌, ◌++◌, ℕ, zero, suc, ◌+◌, ◌/◌, ◌%◌, length, drop, Float}
+use Rattle.std.specs.Prelude.{◌≡◌, List, [], ◌∷◌, ◌++◌, ℕ, zero, suc, ◌+◌, ◌/◌, ◌%◌, length, drop, Float, Option, Some, None}
 use Rattle.std.proofs.lemmas.List.Edits.{sets}
 use Rattle.std.specs.Float.{binary32}
 use Rattle.std.specs.Float.Ieee.{to_bits}
-use Rattle.rules.specs.Sizes.{number, number_at, Outcome, refused, accepted}
+use Rattle.rules.specs.Sizes.{Refusal, number, number_at, Outcome, refused, accepted}
 
 -- Numbers are little-endian: so many bytes of a number.
 unfoldable pub little_endian : ℕ → ℕ → List ℕ
@@ -32,6 +32,15 @@ abbrev pub answer_file : Outcome → List ℕ
 answer_file (refused (number k)) = number_field 0x10 1 k
 answer_file (refused (number_at k index)) = number_field 0x10 1 k ++ number_field 0x11 4 index
 answer_file (accepted takes grid) = number_field 0x10 1 0 ++ number_field 0x12 8 takes ++ grid_field 0x13 grid
+
+-- A refusal with its index, if it has one, and the bytes of its answer.
+abbrev pub refusal : ℕ → Option ℕ → Refusal
+refusal k None = number k
+refusal k (Some index) = number_at k index
+
+abbrev pub refusal_len : Option ℕ → ℕ
+refusal_len None = 4
+refusal_len (Some index) = 11
 
 -- The bytes are stored from a place on, and the answer is the place after them.
 pub record Stored (bytes : List ℕ) (at : ℕ) (before after : List ℕ) (next : ℕ) : Type 0 where

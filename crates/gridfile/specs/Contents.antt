@@ -1,5 +1,5 @@
 -- Document 01, "Grid file and program": the grids of a request, out of the file. Definitions only.
-use Rattle.std.specs.Prelude.{Bool, List, [], ◌∷◌, ℕ, zero, suc, ◌+◌, ◌/◌, take, drop, Float}
+use Rattle.std.specs.Prelude.{Bool, List, [], ◌∷◌, ℕ, zero, suc, ◌+◌, ◌/◌, take, drop, Float, Result, Ok, Err}
 use Rattle.std.specs.Float.{binary32}
 use Rattle.std.specs.Float.Ieee.{of_bits}
 use Rattle.rules.specs.declared.BarrierDiagonals.{BarrierDiagonals}
@@ -7,7 +7,7 @@ use Rattle.rules.specs.declared.Size.{Size}
 use Rattle.rules.specs.declared.Spacing.{Spacing}
 use Rattle.rules.specs.Sizes.{Refusal, number}
 use Rattle.gridfile.specs.Fields.{Part, u32_of}
-use Rattle.gridfile.specs.Request.{Parsed, Good, Bad, parsed}
+use Rattle.gridfile.specs.Request.{Request, BadFile, search_number, parsed}
 
 -- The bytes of a part.
 abbrev pub bytes_in : List ℕ → Part → List ℕ
@@ -28,12 +28,12 @@ pub data Asked : Type 0 where
   asks : ℕ → BarrierDiagonals → Bool → Size → Spacing → (targets obstacles : List ℕ) → (times values : List Float) → Asked
 
 -- What the code's answer says: a request, or document 01's number for a byte string that is no file.
-abbrev pub written_out : List ℕ → Parsed → Asked
-written_out file (Good r) =
+abbrev pub written_out : List ℕ → Result Request BadFile → Asked
+written_out file (Ok r) =
     let g = r.grids in
-    asks r.search r.diagonals r.adjacent r.size r.spacing
+    asks (search_number r.search) r.diagonals r.adjacent r.size r.spacing
     (bytes_in file g.targets) (bytes_in file g.obstacles) (floats_in file g.times) (floats_in file g.values)
-written_out file Bad = refuses (number 8)
+written_out file (Err e) = refuses (number 8)
 
 -- What a byte string asks for, or refusal 8.
 abbrev pub asked : List ℕ → Asked

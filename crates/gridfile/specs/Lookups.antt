@@ -1,28 +1,22 @@
 -- What the code's own steps find, for the contracts of its inner functions. Document 01's form is in Fields and Request. Definitions only.
-use Rattle.std.specs.Prelude.{Bool, false, cond, ◌&&◌, List, ℕ, ◌+◌, leb, eqb, length}
+use Rattle.std.specs.Prelude.{Bool, false, cond, ◌&&◌, List, ℕ, ◌+◌, leb, eqb, length, Option, Some, None}
 use Rattle.rules.specs.Sizes.{any}
-use Rattle.gridfile.specs.Fields.{part, Fields, cut, whole, byte, u16_of, tags}
-use Rattle.gridfile.specs.Request.{grids_of, same, by_tag}
-pub use Rattle.gridfile.specs.declared.fields.Sought.{Sought}
-pub use Rattle.gridfile.specs.declared.fields.Sought.TheVariants.{Content, Missing}
+use Rattle.gridfile.specs.Fields.{Part, part, Fields, cut, whole, byte, u16_of, tags}
+use Rattle.gridfile.specs.Request.{Grids, grids_of, same, by_tag}
 pub use Rattle.gridfile.specs.declared.used.Has.{Has}
-pub use Rattle.gridfile.specs.declared.grids.Found.{Found}
-pub use Rattle.gridfile.specs.declared.grids.Found.TheVariants.{Exactly, Breach}
-pub use Rattle.gridfile.specs.declared.grids.Next.{Next}
-use Rattle.gridfile.specs.declared.grids.Next.TheVariants as next
 
 -- ---- a field at a place
 
 -- The content of the field that stands there, if it has this tag and is not cut.
-abbrev pub field_at : List ℕ → ℕ → ℕ → Sought
+abbrev pub field_at : List ℕ → ℕ → ℕ → Option Part
 field_at file at tag =
     let len = u16_of file (at + 1) in
-    cond (leb (at + 3) (length file) && eqb (byte file at) tag && leb (at + 3 + len) (length file)) (Content (part (at + 3) len)) Missing
+    cond (leb (at + 3) (length file) && eqb (byte file at) tag && leb (at + 3 + len) (length file)) (Some (part (at + 3) len)) None
 
 -- Whether a content was found, and has this length.
-abbrev pub long : ℕ → Sought → Bool
-long len (Content p) = eqb p.len len
-long len Missing = false
+abbrev pub long : ℕ → Option Part → Bool
+long len (Some p) = eqb p.len len
+long len None = false
 
 -- Whether a field of this tag and this length stands there.
 abbrev pub stands_at : List ℕ → ℕ → ℕ → ℕ → Bool
@@ -39,15 +33,15 @@ abbrev pub has_of : List ℕ → Has
 has_of tags = record { targets = any (eqb 0x04) tags; obstacles = any (eqb 0x05) tags; times = any (eqb 0x06) tags; values = any (eqb 0x07) tags }
 
 -- The content that was found is the grid, and the next field stands behind it.
-abbrev pub then_next : Sought → Next
-then_next (Content p) = next.Grid p (p.start + p.len)
-then_next Missing = next.Breach
+abbrev pub then_next : Option Part → Option (Part × ℕ)
+then_next (Some p) = Some (p, p.start + p.len)
+then_next None = None
 
 -- A grid that the search has is the field at this place; one that it has not is empty.
-abbrev pub next_grid : List ℕ → ℕ → ℕ → Bool → Next
-next_grid file at tag has = cond has (then_next (field_at file at tag)) (next.Grid (part 0 0) at)
+abbrev pub next_grid : List ℕ → ℕ → ℕ → Bool → Option (Part × ℕ)
+next_grid file at tag has = cond has (then_next (field_at file at tag)) (Some (part 0 0, at))
 
 -- The grids of some fields, if these are exactly the search's.
-unfoldable pub grids_in : ℕ → Fields → Found
-grids_in search cut = Breach
-grids_in search (whole fields) = cond (same (tags fields) (grids_of search)) (Exactly (by_tag fields)) Breach
+unfoldable pub grids_in : ℕ → Fields → Option Grids
+grids_in search cut = None
+grids_in search (whole fields) = cond (same (tags fields) (grids_of search)) (Some (by_tag fields)) None

@@ -1,5 +1,5 @@
 -- Document 01, "Grid file and program": the request that a file holds, or refusal 8. Definitions only.
-use Rattle.std.specs.Prelude.{Bool, true, false, cond, ◌&&◌, ◌||◌, List, [], ◌∷◌, ℕ, ◌+◌, ◌*◌, ◌%◌, leb, eqb, pos}
+use Rattle.std.specs.Prelude.{Bool, true, false, cond, ◌&&◌, ◌||◌, List, [], ◌∷◌, ℕ, ◌+◌, ◌*◌, ◌%◌, leb, eqb, pos, Result, Ok, Err}
 use Rattle.std.specs.Float.{binary32}
 use Rattle.std.specs.Float.Ieee.{of_bits}
 use Rattle.rules.specs.declared.BarrierDiagonals.{BarrierDiagonals}
@@ -9,8 +9,37 @@ use Rattle.gridfile.specs.Fields.{Part, Field, Fields, cut, whole, byte, u16_of,
 pub use Rattle.gridfile.specs.declared.head.Head.{Head}
 pub use Rattle.gridfile.specs.declared.grids.Grids.{Grids}
 pub use Rattle.gridfile.specs.declared.request.Request.{Request}
-pub use Rattle.gridfile.specs.declared.request.Parsed.{Parsed}
-pub use Rattle.gridfile.specs.declared.request.Parsed.TheVariants.{Good, Bad}
+pub use Rattle.gridfile.specs.declared.request.BadFile.{BadFile}
+pub use Rattle.gridfile.specs.declared.searches.Search.{Search}
+pub use Rattle.gridfile.specs.declared.searches.Search.TheVariants.{DistancesUpTo, DistanceWithObstacles, TravelDistancesUpTo, ValueAtClosestTarget, ValueAtClosestTravelTarget, ValueAtClosestLessThanTravelTarget, SumWithinTravelDistance, SumTargetsWithinTravelDistance}
+
+-- ---- the searches and their numbers
+
+-- Each search has a number, 1 to 8.
+abbrev pub search_number : Search → ℕ
+search_number DistancesUpTo = 1
+search_number DistanceWithObstacles = 2
+search_number TravelDistancesUpTo = 3
+search_number ValueAtClosestTarget = 4
+search_number ValueAtClosestTravelTarget = 5
+search_number ValueAtClosestLessThanTravelTarget = 6
+search_number SumWithinTravelDistance = 7
+search_number SumTargetsWithinTravelDistance = 8
+
+-- The search with a number. Any other number, which no file has, gives the last.
+abbrev pub search_of : ℕ → Search
+search_of number =
+    cond (eqb number 1) DistancesUpTo
+    (cond (eqb number 2) DistanceWithObstacles
+    (cond (eqb number 3) TravelDistancesUpTo
+    (cond (eqb number 4) ValueAtClosestTarget
+    (cond (eqb number 5) ValueAtClosestTravelTarget
+    (cond (eqb number 6) ValueAtClosestLessThanTravelTarget
+    (cond (eqb number 7) SumWithinTravelDistance SumTargetsWithinTravelDistance))))))
+
+-- A number that is not 1 to 8 is no search's.
+abbrev pub search_asked : ℕ → Result Search BadFile
+search_asked number = cond (leb 1 number && leb number 8) (Ok (search_of number)) (Err (record {}))
 
 -- ---- what each search uses
 
@@ -115,9 +144,9 @@ abbrev pub diagonals_of : ℕ → BarrierDiagonals
 diagonals_of flag = cond (eqb flag 0) Include Exclude
 
 -- What the bytes ask for: the flags by their meaning, floats from their bits.
-abbrev pub as_request : Head → Grids → Request
-as_request h g = record {
-  search = h.search;
+abbrev pub as_request : Search → Head → Grids → Request
+as_request search h g = record {
+  search = search;
   diagonals = diagonals_of h.diagonals;
   adjacent = eqb h.adjacent 1;
   size = record { rows = pos h.rows; cols = pos h.cols };
@@ -125,20 +154,24 @@ as_request h g = record {
   grids = g;
 }
 
+-- What a byte string that does not keep the form gives: refusal 8.
+abbrev pub bad : Result Request BadFile
+bad = Err (record {})
+
 -- 01, 02, 03 always, of 3, 4 and 8 bytes; tags rise; the grids are exactly the search's. Any breach is refusal 8.
-unfoldable pub judged : List ℕ → Fields → Parsed
+unfoldable pub judged : List ℕ → Fields → Result Request BadFile
 judged file (whole (f1 ∷ f2 ∷ f3 ∷ grids)) =
     let h = head_of file f1.content.start f2.content.start f3.content.start in
     let g = by_tag grids in
     cond
     (is_field 0x01 3 f1 && is_field 0x02 4 f2 && is_field 0x03 8 f3
     && rising (tags (f1 ∷ f2 ∷ f3 ∷ grids)) && same (tags grids) (grids_of h.search) && head_fits h && grids_fit g)
-    (Good (as_request h g)) Bad
-judged file (whole (f1 ∷ f2 ∷ [])) = Bad
-judged file (whole (f1 ∷ [])) = Bad
-judged file (whole []) = Bad
-judged file cut = Bad
+    (Ok (as_request (search_of h.search) h g)) bad
+judged file (whole (f1 ∷ f2 ∷ [])) = bad
+judged file (whole (f1 ∷ [])) = bad
+judged file (whole []) = bad
+judged file cut = bad
 
 -- The request of a byte string, or refusal 8.
-abbrev pub parsed : List ℕ → Parsed
+abbrev pub parsed : List ℕ → Result Request BadFile
 parsed file = judged file (fields_of file)

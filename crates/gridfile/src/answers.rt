@@ -1,28 +1,29 @@
 // The bytes of an answer.
-ghost use Rattle.std.specs.Prelude.{◌+◌, ◌*◌, ◌≤◌, ◌<◌, length};
-ghost use Rattle.rules.specs.Sizes.{number, number_at, refused, accepted};
-ghost use Rattle.gridfile.specs.Answers.{Stored, Written, field_head, number_field, float_bytes, answer_file};
+ghost use Rattle.std.specs.Prelude.{◌≡◌, ◌++◌, ◌+◌, ◌*◌, ◌≤◌, ◌<◌, length};
+ghost use Rattle.rules.specs.Sizes.{refused, accepted};
+ghost use Rattle.gridfile.specs.Answers.{Stored, Written, field_head, float_bytes, refusal, refusal_len, answer_file};
 
-use crate::numbers::put_number;
+use crate::numbers::put;
 use crate::tags;
 use binary32::bits_of;
 
 // Stores a field's tag and length at a place, and gives the place of its content.
-fn put_field(output: &mut [u8], at: usize, tag: u8, len: u64) -> usize
+fn put_head(output: &mut [u8], at: usize, tag: u8, len: u16) -> usize
     requires { at + 3 ≤ length output.old }
     ensures { Stored (field_head tag len) at output.old output.new result }
 {
-    output[at] = tag;
-    put_number(output, at + 1, len, 2)
+    let [low, high] = len.to_le_bytes();
+    put(output, at, &[tag, low, high])
 }
 
-// Stores a field that holds a number of `count` bytes, and gives the place after it.
-fn put_number_field(output: &mut [u8], at: usize, tag: u8, number: u64, count: usize) -> usize
-    requires { at + 3 + count ≤ length output.old }
-    ensures { Stored (number_field tag count number) at output.old output.new result }
+// Stores a field at a place, and gives the place after it.
+fn put_field(output: &mut [u8], at: usize, tag: u8, content: &[u8]) -> usize
+    requires short { length content.now < 65536 }
+    requires room { at + 3 + length content.now ≤ length output.old }
+    ensures { Stored (field_head tag (length content.now) ++ content.now) at output.old output.new result }
 {
-    let content = put_field(output, at, tag, count as u64);
-    put_number(output, content, number, count)
+    let next = put_head(output, at, tag, content.len() as u16);
+    put(output, next, content)
 }
 
 // Stores the bits of floats at a place, and gives the place after them.
@@ -31,27 +32,22 @@ fn put_floats(output: &mut [u8], at: usize, grid: &[f32]) -> usize
     ensures { Stored (float_bytes grid.now) at output.old output.new result }
 {
     let mut next = at;
-    for i in 0..grid.len() {
-        next = put_number(output, next, bits_of(grid[i]) as u64, 4);
+    for x in grid {
+        next = put(output, next, &bits_of(*x).to_le_bytes());
     }
     next
 }
 
-// Writes the answer of a refusal without an index, and gives its length.
-pub fn write_refused(status: u8, output: &mut [u8]) -> usize
-    requires { 4 ≤ length output.old }
-    ensures { Written (answer_file (refused (number status))) output.old output.new result }
+// Writes the answer of a refusal, with its index where it has one, and gives its length.
+pub fn write_refused(status: u8, index: Option<u32>, output: &mut [u8]) -> usize
+    requires { refusal_len index ≤ length output.old }
+    ensures { Written (answer_file (refused (refusal status index))) output.old output.new result }
 {
-    put_number_field(output, 0, tags::STATUS, status as u64, 1)
-}
-
-// Writes the answer of a refusal with its index, and gives its length.
-pub fn write_refused_at(status: u8, index: u32, output: &mut [u8]) -> usize
-    requires { 11 ≤ length output.old }
-    ensures { Written (answer_file (refused (number_at status index))) output.old output.new result }
-{
-    let next = put_number_field(output, 0, tags::STATUS, status as u64, 1);
-    put_number_field(output, next, tags::INDEX, index as u64, 4)
+    let next = put_field(output, 0, tags::STATUS, &[status]);
+    match index {
+        Some(index) => put_field(output, next, tags::INDEX, &index.to_le_bytes()),
+        None => next,
+    }
 }
 
 // Writes the answer of an accepted call, and gives its length.
@@ -60,9 +56,8 @@ pub fn write_accepted(takes: u64, grid: &[f32], output: &mut [u8]) -> usize
     requires room { 18 + 4 * length grid.now ≤ length output.old }
     ensures { Written (answer_file (accepted takes grid.now)) output.old output.new result }
 {
-    let next = put_number_field(output, 0, tags::STATUS, 0, 1);
-    let next = put_number_field(output, next, tags::TAKES, takes, 8);
-    let len = 4 * grid.len() as u64;
-    let next = put_field(output, next, tags::GRID, len);
+    let next = put_field(output, 0, tags::STATUS, &[0]);
+    let next = put_field(output, next, tags::TAKES, &takes.to_le_bytes());
+    let next = put_head(output, next, tags::GRID, 4 * grid.len() as u16);
     put_floats(output, next, grid)
 }

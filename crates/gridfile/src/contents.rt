@@ -3,7 +3,7 @@ ghost use Rattle.std.specs.Prelude.{◌≡◌, ◌++◌, ◌+◌, ◌/◌, ◌�
 ghost use Rattle.gridfile.specs.Contents.{bytes_in, floats_in};
 
 use crate::fields::Part;
-use crate::numbers::u32_at;
+use crate::numbers::bytes_at;
 use binary32::of_bits;
 
 // Copies a part of the file to the front of a slice.
@@ -12,11 +12,7 @@ pub fn copy_bytes(file: &[u8], part: Part, cells: &mut [u8])
     requires room { part.len ≤ length cells.old }
     ensures { cells.new ≡ bytes_in file.now part ++ drop part.len cells.old }
 {
-    let start = part.start;
-    let count = part.len;
-    for i in 0..count {
-        cells[i] = file[start + i];
-    }
+    cells[..part.len].copy_from_slice(&file[part.start..part.start + part.len]);
 }
 
 // Reads the floats of a part of the file to the front of a slice.
@@ -25,9 +21,8 @@ pub fn read_floats(file: &[u8], part: Part, cells: &mut [f32])
     requires room { part.len / 4 ≤ length cells.old }
     ensures { cells.new ≡ floats_in file.now part ++ drop (part.len / 4) cells.old }
 {
-    let start = part.start;
     let count = part.len / 4;
-    for i in 0..count {
-        cells[i] = of_bits(u32_at(file, start + 4 * i));
+    for (i, cell) in cells[..count].iter_mut().enumerate() {
+        *cell = of_bits(u32::from_le_bytes(bytes_at(file, part.start + 4 * i)));
     }
 }

@@ -1,12 +1,12 @@
 // The fields 04 to 07: the grids.
 ghost use Rattle.std.specs.Prelude.{◌≡◌, ◌≤◌, length};
 ghost use Rattle.gridfile.specs.Fields.{fields_from};
-ghost use Rattle.gridfile.specs.Request.{small_bytes, small_floats, grids_fit};
+ghost use Rattle.gridfile.specs.Request.{search_number, small_bytes, small_floats, grids_fit};
 ghost use Rattle.gridfile.specs.Lookups.{next_grid, grids_in};
 
-use crate::fields::{Part, Sought, field_at};
+use crate::fields::{Part, field_at};
+use crate::searches::Search;
 use crate::tags;
-use crate::used::grids_of;
 
 // Where each grid stands in the file. A grid that the search has not is empty, and starts at 0.
 #[derive(Clone, Copy)]
@@ -17,64 +17,36 @@ pub struct Grids {
     pub values: Part,
 }
 
-// What the fields after 03 come to.
-#[derive(Clone, Copy)]
-pub enum Found {
-    Exactly(Grids),
-    Breach,
-}
-
-// A grid, and the place of the next field.
-#[derive(Clone, Copy)]
-pub enum Next {
-    Grid(Part, usize),
-    Breach,
-}
-
 // The most bytes of a grid field.
 pub const FIELD_MAX: usize = 4096;
 
-// The grid of this tag where the search has it, which is then the field at this place.
-fn next_grid(file: &[u8], at: usize, tag: u8, has: bool) -> Next
+// The grid of this tag where the search has it, which is then the field at this place, and the place of
+// the next field.
+fn next_grid(file: &[u8], at: usize, tag: u8, has: bool) -> Option<(Part, usize)>
     requires { at ≤ length file.now }
     ensures { result ≡ next_grid file.now at tag has }
 {
     if !has {
-        return Next::Grid(Part { start: 0, len: 0 }, at);
+        return Some((Part { start: 0, len: 0 }, at));
     }
-    let field = field_at(file, at, tag);
-    let Sought::Content(part) = field else {
-        return Next::Breach;
-    };
-    Next::Grid(part, part.start + part.len)
+    let part = field_at(file, at, tag)?;
+    Some((part, part.start + part.len))
 }
 
 // The grids from a place on, if they are exactly the search's and nothing comes after them.
-pub fn find_grids(file: &[u8], at: usize, search: u8) -> Found
+pub fn find_grids(file: &[u8], at: usize, search: Search) -> Option<Grids>
     requires { at ≤ length file.now }
-    ensures { result ≡ grids_in search (fields_from file.now at) }
+    ensures { result ≡ grids_in (search_number search) (fields_from file.now at) }
 {
-    let has = grids_of(search);
-    let first = next_grid(file, at, tags::TARGETS, has.targets);
-    let Next::Grid(targets, at) = first else {
-        return Found::Breach;
-    };
-    let second = next_grid(file, at, tags::OBSTACLES, has.obstacles);
-    let Next::Grid(obstacles, at) = second else {
-        return Found::Breach;
-    };
-    let third = next_grid(file, at, tags::TIMES, has.times);
-    let Next::Grid(times, at) = third else {
-        return Found::Breach;
-    };
-    let fourth = next_grid(file, at, tags::VALUES, has.values);
-    let Next::Grid(values, end) = fourth else {
-        return Found::Breach;
-    };
+    let has = search.grids();
+    let (targets, at) = next_grid(file, at, tags::TARGETS, has.targets)?;
+    let (obstacles, at) = next_grid(file, at, tags::OBSTACLES, has.obstacles)?;
+    let (times, at) = next_grid(file, at, tags::TIMES, has.times)?;
+    let (values, end) = next_grid(file, at, tags::VALUES, has.values)?;
     if end != file.len() {
-        return Found::Breach;
+        return None;
     }
-    Found::Exactly(Grids {
+    Some(Grids {
         targets,
         obstacles,
         times,
@@ -93,28 +65,16 @@ fn small_bytes(part: Part) -> bool
 fn small_floats(part: Part) -> bool
     ensures { result ≡ small_floats part }
 {
-    if FIELD_MAX < part.len {
-        return false;
-    }
-    part.len % 4 == 0
+    small_bytes(part) && part.len % 4 == 0
 }
 
 // Whether every grid's field has a length that it may have.
+#[tactic(auto, unfolding(crate::specs::Request::grids_fit))]
 pub fn grids_fit(grids: Grids) -> bool
     ensures { result ≡ grids_fit grids }
 {
-    let targets = grids.targets;
-    let obstacles = grids.obstacles;
-    let times = grids.times;
-    let values = grids.values;
-    if !small_bytes(targets) {
-        return false;
-    }
-    if !small_bytes(obstacles) {
-        return false;
-    }
-    if !small_floats(times) {
-        return false;
-    }
-    small_floats(values)
+    small_bytes(grids.targets)
+        && small_bytes(grids.obstacles)
+        && small_floats(grids.times)
+        && small_floats(grids.values)
 }

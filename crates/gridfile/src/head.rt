@@ -1,14 +1,15 @@
 // The fields 01, 02 and 03, with which every file begins.
 ghost use Rattle.std.specs.Prelude.{◌≡◌, ◌≤◌, length};
-ghost use Rattle.gridfile.specs.Request.{head_of, zero_unless, flags_fit, numbers_fit, few_cells, head_fits};
+ghost use Rattle.gridfile.specs.Request.{search_number, head_of, zero_unless, flags_fit, numbers_fit, few_cells, head_fits};
 ghost use Rattle.gridfile.specs.Lookups.{has_head};
 
 use crate::fields::stands_at;
-use crate::numbers::{u16_at, u32_at};
+use crate::numbers::bytes_at;
+use crate::searches::Search;
 use crate::tags;
-use crate::used::{uses_adjacent, uses_cell_size, uses_diagonals, uses_limit};
 
-// What the three fields hold, as numbers; the cell size and the limit by their bits.
+// What the three fields hold, as the file has it: numbers and flags that are not judged, and the cell
+// size and the limit by their bits.
 #[derive(Clone, Copy)]
 pub struct Head {
     pub search: u8,
@@ -30,13 +31,9 @@ pub const FILE_CELLS_MAX: usize = 1024;
 pub fn has_head(file: &[u8]) -> bool
     ensures { result ≡ has_head file.now }
 {
-    if !stands_at(file, 0, tags::FLAGS, 3) {
-        return false;
-    }
-    if !stands_at(file, 6, tags::SIZE, 4) {
-        return false;
-    }
-    stands_at(file, 13, tags::NUMBERS, 8)
+    stands_at(file, 0, tags::FLAGS, 3)
+        && stands_at(file, 6, tags::SIZE, 4)
+        && stands_at(file, 13, tags::NUMBERS, 8)
 }
 
 // What the three fields hold in a file that begins with them.
@@ -48,10 +45,10 @@ pub fn read_head(file: &[u8]) -> Head
         search: file[3],
         diagonals: file[4],
         adjacent: file[5],
-        rows: u16_at(file, 9),
-        cols: u16_at(file, 11),
-        cell_size: u32_at(file, 16),
-        limit: u32_at(file, 20),
+        rows: u16::from_le_bytes(bytes_at(file, 9)),
+        cols: u16::from_le_bytes(bytes_at(file, 11)),
+        cell_size: u32::from_le_bytes(bytes_at(file, 16)),
+        limit: u32::from_le_bytes(bytes_at(file, 20)),
     }
 }
 
@@ -59,42 +56,24 @@ pub fn read_head(file: &[u8]) -> Head
 fn zero_unless(used: bool, number: u32) -> bool
     ensures { result ≡ zero_unless used number }
 {
-    if used {
-        return true;
-    }
-    number == 0
+    used || number == 0
 }
 
-// Whether the search and the flags are in their ranges, and the unused flags zero.
-fn flags_fit(search: u8, diagonals: u8, adjacent: u8) -> bool
-    ensures { result ≡ flags_fit search diagonals adjacent }
+// Whether the flags are in their ranges, and the unused flags zero.
+fn flags_fit(search: Search, diagonals: u8, adjacent: u8) -> bool
+    ensures { result ≡ flags_fit (search_number search) diagonals adjacent }
 {
-    if search < 1 {
-        return false;
-    }
-    if 8 < search {
-        return false;
-    }
-    if 1 < diagonals {
-        return false;
-    }
-    if 1 < adjacent {
-        return false;
-    }
-    if !zero_unless(uses_diagonals(search), diagonals as u32) {
-        return false;
-    }
-    zero_unless(uses_adjacent(search), adjacent as u32)
+    diagonals <= 1
+        && adjacent <= 1
+        && zero_unless(search.uses_diagonals(), diagonals as u32)
+        && zero_unless(search.uses_adjacent(), adjacent as u32)
 }
 
 // Whether the unused numbers are zero bytes.
-fn numbers_fit(search: u8, cell_size: u32, limit: u32) -> bool
-    ensures { result ≡ numbers_fit search cell_size limit }
+fn numbers_fit(search: Search, cell_size: u32, limit: u32) -> bool
+    ensures { result ≡ numbers_fit (search_number search) cell_size limit }
 {
-    if !zero_unless(uses_cell_size(search), cell_size) {
-        return false;
-    }
-    zero_unless(uses_limit(search), limit)
+    zero_unless(search.uses_cell_size(), cell_size) && zero_unless(search.uses_limit(), limit)
 }
 
 // Whether a grid of this size is one that a file may ask for.
@@ -104,15 +83,13 @@ fn few_cells(rows: u16, cols: u16) -> bool
     rows as usize * cols as usize <= FILE_CELLS_MAX
 }
 
-// Whether what the three fields hold keeps the rules.
-pub fn head_fits(head: Head) -> bool
+// Whether what the three fields hold keeps the rules of the search that they ask for.
+#[tactic(auto, unfolding(crate::specs::Request::head_fits))]
+pub fn head_fits(search: Search, head: Head) -> bool
+    requires { head.search ≡ search_number search }
     ensures { result ≡ head_fits head }
 {
-    if !flags_fit(head.search, head.diagonals, head.adjacent) {
-        return false;
-    }
-    if !numbers_fit(head.search, head.cell_size, head.limit) {
-        return false;
-    }
-    few_cells(head.rows, head.cols)
+    flags_fit(search, head.diagonals, head.adjacent)
+        && numbers_fit(search, head.cell_size, head.limit)
+        && few_cells(head.rows, head.cols)
 }

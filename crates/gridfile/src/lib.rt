@@ -2,11 +2,11 @@
 //
 // The crate promises that `parse` gives, for every byte string, what specs/Request.antt reads in it: the
 // request, or refusal 8. A request says where in the file its grids stand; `copy_bytes` and
-// `read_floats` fetch them, and `diagonals_of` reads the flag for diagonals. `write_refused`,
-// `write_refused_at` and `write_accepted` write exactly the bytes of specs/Answers.antt. There is no
-// input and no output here. proofs/Requests.antt has what a program may rely on in a request,
-// proofs/ReadBack.antt that the fields of a file are those that were written, and proofs/Cases.antt
-// files and answers on which the definitions were computed.
+// `read_floats` fetch them, and `diagonals_of` reads the flag for diagonals. `write_refused` and
+// `write_accepted` write exactly the bytes of specs/Answers.antt. There is no input and no output here.
+// proofs/Requests.antt has what a program may rely on in a request, proofs/ReadBack.antt that the fields
+// of a file are those that were written, and proofs/Cases.antt files and answers on which the
+// definitions were computed.
 #![tactic(auto)]
 
 mod answers;
@@ -16,12 +16,14 @@ mod grids;
 mod head;
 mod numbers;
 mod request;
+mod searches;
 mod tags;
 mod used;
 
-pub use answers::{write_accepted, write_refused, write_refused_at};
+pub use answers::{write_accepted, write_refused};
 pub use contents::{copy_bytes, read_floats};
 pub use fields::Part;
 pub use grids::{FIELD_MAX, Grids};
 pub use head::{FILE_CELLS_MAX, HEAD_END};
-pub use request::{Parsed, Request, diagonals_of, parse};
+pub use request::{BadFile, Request, diagonals_of, parse};
+pub use searches::Search;

@@ -1,35 +1,24 @@
-// Numbers are little-endian.
-ghost use Rattle.std.specs.Prelude.{◌≡◌, ◌+◌, ◌≤◌, length};
-ghost use Rattle.gridfile.specs.Fields.{u16_of, u32_of};
-ghost use Rattle.gridfile.specs.Answers.{little_endian, Stored};
+// Bytes at a place. Numbers are little-endian: std's `from_le_bytes` and `to_le_bytes` have them.
+ghost use Rattle.std.specs.Prelude.{◌≡◌, ◌+◌, ◌≤◌, length, take, drop};
+ghost use Rattle.gridfile.specs.Answers.{Stored};
 
-// The number of two bytes.
-pub fn u16_at(file: &[u8], at: usize) -> u16
-    requires { at + 2 ≤ length file.now }
-    ensures { result ≡ u16_of file.now at }
+// So many bytes as the array has, which stand at a place of the file.
+pub fn bytes_at<const N: usize>(file: &[u8], at: usize) -> [u8; N]
+    requires { at + N ≤ length file.now }
+    ensures { result ≡ take N (drop at file.now) }
 {
-    let low = file[at];
-    let high = file[at + 1];
-    low as u16 + 256 * (high as u16)
+    let mut bytes = [0u8; N];
+    bytes.copy_from_slice(&file[at..at + N]);
+    bytes
 }
 
-// The number of four bytes.
-pub fn u32_at(file: &[u8], at: usize) -> u32
-    requires { at + 4 ≤ length file.now }
-    ensures { result ≡ u32_of file.now at }
+// Stores bytes at a place, and gives the place after them. (A struct of the output and the place would
+// be no plainer: each of its methods would have to promise that it keeps the same `&mut`.)
+pub fn put(output: &mut [u8], at: usize, bytes: &[u8]) -> usize
+    requires { at + length bytes.now ≤ length output.old }
+    ensures { Stored bytes.now at output.old output.new result }
 {
-    u16_at(file, at) as u32 + 65536 * (u16_at(file, at + 2) as u32)
-}
-
-// Stores the `count` low bytes of a number at a place, the lowest first, and gives the place after them.
-pub fn put_number(output: &mut [u8], at: usize, number: u64, count: usize) -> usize
-    requires { at + count ≤ length output.old }
-    ensures { Stored (little_endian count number) at output.old output.new result }
-{
-    let mut rest = number;
-    for i in 0..count {
-        output[at + i] = (rest % 256) as u8;
-        rest = rest / 256;
-    }
-    at + count
+    let end = at + bytes.len();
+    output[at..end].copy_from_slice(bytes);
+    end
 }

@@ -2,15 +2,16 @@
 ghost use Rattle.std.specs.Prelude.{◌≡◌};
 ghost use Rattle.gridfile.specs.Request.{diagonals_of, as_request, parsed};
 
-use crate::grids::{Found, Grids, find_grids, grids_fit};
+use crate::grids::{Grids, find_grids, grids_fit};
 use crate::head::{HEAD_END, Head, has_head, head_fits, read_head};
+use crate::searches::Search;
 use binary32::of_bits;
 use rules::{BarrierDiagonals, Size, Spacing};
 
 // A search with all that it is given.
 #[derive(Clone, Copy)]
 pub struct Request {
-    pub search: u8,
+    pub search: Search,
     pub diagonals: BarrierDiagonals,
     pub adjacent: bool,
     pub size: Size,
@@ -18,14 +19,17 @@ pub struct Request {
     pub grids: Grids,
 }
 
-// A file's request, or refusal 8.
+// A byte string that does not keep the form.
 #[derive(Clone, Copy)]
-pub enum Parsed {
-    Good(Request),
-    Bad,
+pub struct BadFile;
+
+impl BadFile {
+    // The number of this refusal.
+    pub const NUMBER: u8 = 8;
 }
 
-// The diagonals that a flag stands for: 0 is Include, any other number Exclude.
+// The diagonals that a flag stands for: 0 is Include, any other number Exclude. (It has a name, and is
+// no `From<u32>` of `rules`, so that a call says that its number is a flag.)
 pub fn diagonals_of(flag: u32) -> BarrierDiagonals
     ensures { result ≡ diagonals_of flag }
 {
@@ -37,11 +41,11 @@ pub fn diagonals_of(flag: u32) -> BarrierDiagonals
 }
 
 // The request that the three first fields and the grids make.
-fn request_of(head: Head, grids: Grids) -> Request
-    ensures { result ≡ as_request head grids }
+fn request_of(search: Search, head: Head, grids: Grids) -> Request
+    ensures { result ≡ as_request search head grids }
 {
     Request {
-        search: head.search,
+        search,
         diagonals: diagonals_of(head.diagonals as u32),
         adjacent: head.adjacent == 1,
         size: Size {
@@ -57,22 +61,17 @@ fn request_of(head: Head, grids: Grids) -> Request
 }
 
 // The request of a file that keeps the form, and refusal 8 for every other byte string.
-pub fn parse(file: &[u8]) -> Parsed
+pub fn parse(file: &[u8]) -> Result<Request, BadFile>
     ensures { result ≡ parsed file.now }
 {
     if !has_head(file) {
-        return Parsed::Bad;
+        return Err(BadFile);
     }
     let head = read_head(file);
-    let found = find_grids(file, HEAD_END, head.search);
-    let Found::Exactly(grids) = found else {
-        return Parsed::Bad;
-    };
-    if !head_fits(head) {
-        return Parsed::Bad;
+    let search = Search::try_from(head.search)?;
+    let grids = find_grids(file, HEAD_END, search).ok_or(BadFile)?;
+    if !head_fits(search, head) || !grids_fit(grids) {
+        return Err(BadFile);
     }
-    if !grids_fit(grids) {
-        return Parsed::Bad;
-    }
-    Parsed::Good(request_of(head, grids))
+    Ok(request_of(search, head, grids))
 }

@@ -1,4 +1,5 @@
-// The tags of the fields, in the order in which they stand in a file.
+// The tags of the fields, in the order in which they stand in a file: numbers and no enum, as each is
+// only compared with a byte, or stored as one.
 
 pub const FLAGS: u8 = 0x01;
 

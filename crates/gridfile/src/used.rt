@@ -1,7 +1,9 @@
 // What each search uses of a file.
 ghost use Rattle.std.specs.Prelude.{◌≡◌};
-ghost use Rattle.gridfile.specs.Request.{uses_cell_size, uses_limit, uses_diagonals, uses_adjacent, grids_of};
+ghost use Rattle.gridfile.specs.Request.{search_number, uses_cell_size, uses_limit, uses_diagonals, uses_adjacent, grids_of};
 ghost use Rattle.gridfile.specs.Lookups.{has_of};
+
+use crate::searches::Search;
 
 // Which of the grids a search has.
 #[derive(Clone, Copy)]
@@ -12,86 +14,88 @@ pub struct Has {
     pub values: bool,
 }
 
-// The table of the grids that each search has.
-pub fn grids_of(search: u8) -> Has
-    ensures { result ≡ has_of (grids_of search) }
-{
-    match search {
-        1 => Has {
-            targets: true,
-            obstacles: false,
-            times: false,
-            values: false,
-        },
-        2 => Has {
-            targets: true,
-            obstacles: true,
-            times: false,
-            values: false,
-        },
-        3 => Has {
-            targets: true,
-            obstacles: false,
-            times: true,
-            values: false,
-        },
-        4 => Has {
-            targets: true,
-            obstacles: false,
-            times: false,
-            values: true,
-        },
-        5 | 6 | 7 => Has {
-            targets: true,
-            obstacles: false,
-            times: true,
-            values: true,
-        },
-        8 => Has {
-            targets: false,
-            obstacles: false,
-            times: true,
-            values: true,
-        },
-        _ => Has {
-            targets: false,
-            obstacles: false,
-            times: false,
-            values: false,
-        },
+// What the table's rows begin with.
+const NONE: Has = Has {
+    targets: false,
+    obstacles: false,
+    times: false,
+    values: false,
+};
+
+#[tactic(auto, unfolding(crate::specs::Request::grids_of, rules::specs::Sizes::any))]
+impl Search {
+    // The table of the grids that each search has.
+    pub(crate) fn grids(self) -> Has
+        ensures { result ≡ has_of (grids_of (search_number self)) }
+    {
+        match self {
+            Search::DistancesUpTo => Has {
+                targets: true,
+                ..NONE
+            },
+            Search::DistanceWithObstacles => Has {
+                targets: true,
+                obstacles: true,
+                ..NONE
+            },
+            Search::TravelDistancesUpTo => Has {
+                targets: true,
+                times: true,
+                ..NONE
+            },
+            Search::ValueAtClosestTarget => Has {
+                targets: true,
+                values: true,
+                ..NONE
+            },
+            Search::ValueAtClosestTravelTarget
+            | Search::ValueAtClosestLessThanTravelTarget
+            | Search::SumWithinTravelDistance => Has {
+                targets: true,
+                times: true,
+                values: true,
+                ..NONE
+            },
+            Search::SumTargetsWithinTravelDistance => Has {
+                times: true,
+                values: true,
+                ..NONE
+            },
+        }
     }
-}
 
-// Whether a search scales by the cell size.
-pub fn uses_cell_size(search: u8) -> bool
-    ensures { result ≡ uses_cell_size search }
-{
-    match search {
-        1 | 2 => true,
-        _ => false,
+    // Whether a search scales by the cell size.
+    pub(crate) fn uses_cell_size(self) -> bool
+        ensures { result ≡ uses_cell_size (search_number self) }
+    {
+        matches!(self, Search::DistancesUpTo | Search::DistanceWithObstacles)
     }
-}
 
-// Whether a search has a limit: a cap, a time limit or a budget.
-pub fn uses_limit(search: u8) -> bool
-    ensures { result ≡ uses_limit search }
-{
-    match search {
-        1 | 3 | 6 | 7 | 8 => true,
-        _ => false,
+    // Whether a search has a limit: a cap, a time limit or a budget.
+    pub(crate) fn uses_limit(self) -> bool
+        ensures { result ≡ uses_limit (search_number self) }
+    {
+        matches!(
+            self,
+            Search::DistancesUpTo
+                | Search::TravelDistancesUpTo
+                | Search::ValueAtClosestLessThanTravelTarget
+                | Search::SumWithinTravelDistance
+                | Search::SumTargetsWithinTravelDistance
+        )
     }
-}
 
-// Whether a search has the flag for diagonals.
-pub fn uses_diagonals(search: u8) -> bool
-    ensures { result ≡ uses_diagonals search }
-{
-    search == 2
-}
+    // Whether a search has the flag for diagonals.
+    pub(crate) fn uses_diagonals(self) -> bool
+        ensures { result ≡ uses_diagonals (search_number self) }
+    {
+        matches!(self, Search::DistanceWithObstacles)
+    }
 
-// Whether a search has the flag for adjacent cells.
-pub fn uses_adjacent(search: u8) -> bool
-    ensures { result ≡ uses_adjacent search }
-{
-    search == 7
+    // Whether a search has the flag for adjacent cells.
+    pub(crate) fn uses_adjacent(self) -> bool
+        ensures { result ≡ uses_adjacent (search_number self) }
+    {
+        matches!(self, Search::SumWithinTravelDistance)
+    }
 }

@@ -1,7 +1,8 @@
 // Program `haul`: reads a grid file on standard input, and writes its answer on standard output.
 #![tactic(auto)]
 
-ghost use Rattle.std.specs.Prelude.{◌≤◌, length, IfOk};
+ghost use Rattle.std.specs.Prelude.{◌≤◌, ◌<◌, length, take, IfOk};
+ghost use Rattle.std.specs.Io.KnownBytes.{Consumes, IsAtEnd};
 
 use answer::{LONGEST, LONGEST_FILE, answer_file};
 use std::io;
@@ -12,9 +13,11 @@ use std::io::Read;
 const INPUT: usize = LONGEST_FILE + 1;
 
 // Reads until the buffer is full or the input ends, and answers how many bytes it put at the
-// buffer's start.
+// buffer's start. (`read_exact` does not tell how many there were, and `read_to_end` fills a `Vec`.)
 fn read_full<R: Read>(reader: &mut R, buffer: &mut [u8]) -> io::Result<usize>
-    ensures { IfOk result (λ n. n ≤ length buffer.new) }
+    ensures fits { IfOk result (λ n. n ≤ length buffer.new) }
+    ensures read { IfOk result (λ n. Consumes (R.remaining reader.old) (R.remaining reader.new) (take n buffer.new)) }
+    ensures all { IfOk result (λ n. n < length buffer.new → IsAtEnd (R.remaining reader.new)) }
 {
     let mut done = 0;
     while done < buffer.len() {

@@ -3,6 +3,6 @@ use mathlib.Core.Path.{sym, ◌∙◌}
 use Rattle.answer.proofs.Sending.{short_refused, of_file}
 use Rattle.answer.proofs.file.answer_file.Goals as goal
 
-pub returns-in_default : goal.returns-in_default
-returns-in_default c =
-    of_file c.args.input.now (sym c.parse-parsed.ensures ∙ c.in_default.is) c.if-output-lt-LONGEST.false (short_refused 8 c.write_refused.ensures)
+pub returns-in-Err : goal.returns-in-Err
+returns-in-Err c =
+    of_file c.args.input.now (sym c.parse.ensures ∙ c.in-Err.is) c.if-output-lt-LONGEST.false (short_refused 8 c.write_refused.ensures)

@@ -8,4 +8,4 @@ returns-in-Plain c =
 
 pub returns-in-At : goal.returns-in-At
 returns-in-At c =
-    of_number c.number_of-numbered.ensures c.in-At.is (short_refused_at c.in-At.status c.in-At.index c.write_refused_at.ensures)
+    of_number c.number_of-numbered.ensures c.in-At.is (short_refused_at c.in-At.status c.in-At.index c.write_refused-in-At.ensures)
