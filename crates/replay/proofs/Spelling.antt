@@ -4,11 +4,15 @@ use native.Mathlib.Nat.{lt_of_lt_of_le}
 use native.Mathlib.Numerals.{add-one}
 use native.Mathlib.Omega.{arith}
 use mathlib.Core.Path.{◌≡◌, sym, ap, subst, ◌∙◌}
+use mathlib.Core.Bool.{Bool, true, false, true≢false}
+use lib.Dec.{eqb}
+use Rattle.std.specs.List.{starts_with}
+use Rattle.std.specs.Cmp.Lexicographic.{bytes_decides}
 use mathlib.Core.List.{List, [], ◌∷◌, ◌++◌}
 use borrow.Author.Tests.{lt-ltb, le-ltb}
 use lib.ListN.{length, take, drop, get_or, length-drop}
 use lib.Pow.{pow-add, pow_mono}
-use lib.Seq.{take-suc, get_or-drop}
+use lib.Seq.{take-suc, get_or-drop, get_or-take}
 use Rattle.replay.specs.Words.{Spelled, last_digits, hex_digit_ascii}
 
 -- The bytes of the digits: `0` to `9` and `a` to `f`.
@@ -67,3 +71,23 @@ pub hex_small : (v i j : ℕ) → v < 2 ^ (4 * i) → i ≤ j → v < 2 ^ (4 * j
 hex_small v i j below few =
     let h : 4 * i ≤ 4 * j = omega arith in
     lt_of_lt_of_le below (pow_mono h)
+
+-- What `starts_with` answers of a word and the bytes that come next.
+pub starts : {b : Bool} {rest after : List ℕ} (word : List ℕ) → rest ≡ after → b ≡ starts_with eqb rest word → b ≡ true → take (length word) after ≡ word
+starts word e same so = rw (← e) (sym ((bytes_decides _ _).0 (sym same ∙ so)))
+
+pub starts_not : {b : Bool} {rest after : List ℕ} (word : List ℕ) → rest ≡ after → b ≡ starts_with eqb rest word → b ≡ false → take (length word) after ≡ word → ⊥
+starts_not word e same not stands =
+    true≢false (sym ((bytes_decides _ _).1 (sym (ap (take (length word)) e ∙ stands))) ∙ (sym same ∙ not))
+
+-- A byte of those that come next is one of the text.
+pub within_text : (text rest : List ℕ) (start i : ℕ) → rest ≡ drop start text → i < length rest → start + i < length text
+within_text text rest start i e inside =
+    let h : i < length text - start = rw (← length-drop, ← e) inside in
+    omega arith
+
+pub byte_of_rest : (text rest : List ℕ) (start i : ℕ) → rest ≡ drop start text → get_or rest i 0 ≡ get_or text (start + i) 0
+byte_of_rest text rest start i e = rw (e, get_or-drop)
+
+pub byte_of_first : (bytes rest : List ℕ) (i n : ℕ) → bytes ≡ take n rest → i < n → get_or bytes i 0 ≡ get_or rest i 0
+byte_of_first bytes rest i n e inside = rw (e, get_or-take)

@@ -1,2 +1,4 @@
 pub mod Words
+pub mod Reading
+pub mod Search
 pub mod Buffers
