@@ -1,4 +1,9 @@
 // What the library answered, held against what is stored.
+ghost use Rattle.std.specs.Prelude.{◌≡◌, ◌≤◌, IsTrue};
+ghost use Rattle.replay.specs.Buffers.{AllAre, AllHave, SameBits, left_of, dirty_byte, dirty_word, dirty_float};
+ghost use Rattle.replay.specs.Search.{number_of};
+ghost use Rattle.replay.specs.Stored.{clears};
+
 use crate::buffers::{left, same_bits};
 use crate::case::Case;
 use crate::kinds::Search;
@@ -30,7 +35,15 @@ fn told_of(answer: Answer) -> Told {
 }
 
 // Whether the answer, its cells and each work buffer that the search is lent are as stored.
-pub fn as_stored(answer: Answer, search: Search, case: &Case<'_>, lent: &Lent<'_>) -> bool {
+pub fn as_stored(answer: Answer, search: Search, case: &Case<'_>, lent: &Lent<'_>) -> bool
+    ensures cells { IsTrue result → SameBits lent.now.cells.now case.now.bits.now }
+    ensures marks { IsTrue result → AllAre lent.now.marks.now (left_of dirty_byte (clears case.now.told)) }
+    ensures queue { IsTrue result → AllAre lent.now.queue.now (left_of dirty_word (clears case.now.told)) }
+    ensures distances { IsTrue result → 4 ≤ number_of search → AllHave lent.now.distances.now (left_of dirty_float (clears case.now.told)) }
+    ensures listed { IsTrue result → number_of search ≡ 7 → AllAre lent.now.listed.now (left_of dirty_word (clears case.now.told)) }
+    ensures adjacent { IsTrue result → number_of search ≡ 7 → AllAre lent.now.adjacent.now (left_of dirty_word (clears case.now.told)) }
+    ensures added { IsTrue result → number_of search ≡ 8 → AllAre lent.now.added.now (left_of dirty_byte (clears case.now.told)) }
+{
     let cleared = stored::cleared(case.told);
     told_of(answer) == case.told
         && same_bits(lent.cells, case.bits)

@@ -1,22 +1,21 @@
 // Buffers that hold something before a call, and what they hold after it.
-ghost use Rattle.std.specs.Prelude.{ℕ, ◌≡◌, ◌↔◌, IsTrue, cond};
+ghost use Rattle.std.specs.Prelude.{ℕ, ◌≡◌, ◌↔◌, IsTrue};
 ghost use Rattle.std.specs.Float.{nan, binary32};
 ghost use Rattle.std.specs.Float.Ieee.{to_bits};
-ghost use Rattle.replay.specs.Buffers.{AllHold, SameBits};
+ghost use Rattle.replay.specs.Buffers.{AllHold, SameBits, left_of, dirty_byte, dirty_word, dirty_float};
 
-// The bits of what each float of a lent buffer holds before the call, -77.25.
-pub const DIRTY_FLOAT_BITS: u32 = 0xC29A_8000;
-
-// A cell of a lent buffer: its bits, and those that it holds before the call.
+// A cell of a lent buffer, which is compared by its bits.
 pub trait Held: Copy {
     ghost bits: { Self → ℕ };
 
-    // What a proof reads past a buffer's end.
+    // The cell that a proof reads past a buffer's end.
     ghost past: { Self };
 
-    ghost DIRTY: { ℕ };
+    ghost dirty_bits: { ℕ };
 
-    const DIRTY: u32;
+    // What each cell holds before the call.
+    fn dirty() -> Self
+        ensures { bits result ≡ dirty_bits };
 
     fn bits(self) -> u32
         ensures { result ≡ bits self };
@@ -27,9 +26,11 @@ impl Held for u8 {
 
     ghost past = { 0 };
 
-    ghost DIRTY = { 165 };
+    ghost dirty_bits = { dirty_byte };
 
-    const DIRTY: u32 = 0xA5;
+    fn dirty() -> u8 {
+        0xA5
+    }
 
     fn bits(self) -> u32 {
         u32::from(self)
@@ -41,9 +42,11 @@ impl Held for u32 {
 
     ghost past = { 0 };
 
-    ghost DIRTY = { 2779096485 };
+    ghost dirty_bits = { dirty_word };
 
-    const DIRTY: u32 = 0xA5A5_A5A5;
+    fn dirty() -> u32 {
+        0xA5A5_A5A5
+    }
 
     fn bits(self) -> u32 {
         self
@@ -55,9 +58,11 @@ impl Held for f32 {
 
     ghost past = { nan };
 
-    ghost DIRTY = { 3264905216 };
+    ghost dirty_bits = { dirty_float };
 
-    const DIRTY: u32 = DIRTY_FLOAT_BITS;
+    fn dirty() -> f32 {
+        -77.25
+    }
 
     fn bits(self) -> u32 {
         binary32::bits_of(self)
@@ -84,7 +89,7 @@ fn all_have<T: Held>(cells: &[T], bits: u32) -> bool
 
 // Whether a work buffer was cleared, or else was left as it was.
 pub fn left<T: Held>(cells: &[T], cleared: bool) -> bool
-    ensures { IsTrue result ↔ AllHold T.bits T.past cells.now (cond cleared 0 T.DIRTY) }
+    ensures { IsTrue result ↔ AllHold T.bits T.past cells.now (left_of T.dirty_bits cleared) }
 {
-    all_have(cells, if cleared { 0 } else { T::DIRTY })
+    all_have(cells, if cleared { 0 } else { T::dirty().bits() })
 }

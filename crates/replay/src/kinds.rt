@@ -1,4 +1,6 @@
 // The eight searches.
+ghost use Rattle.std.specs.Prelude.{◌≡◌, ◌≤◌, ◌↔◌, ◌⊎◌, IsTrue};
+ghost use Rattle.replay.specs.Search.{number_of, IsSearchOf};
 
 // A search, in the order of document 01's numbers, from 1 on.
 #[derive(Clone, Copy, Debug, PartialEq, Eq)]
@@ -20,8 +22,6 @@ pub struct NoSuchSearch(pub u64);
 impl TryFrom<u64> for Search {
     type Error = NoSuchSearch;
 
-    ghost use Rattle.replay.specs.Search.{IsSearchOf};
-
     ghost try_from_gives = { IsSearchOf };
 
     fn try_from(number: u64) -> Result<Self, NoSuchSearch> {
@@ -41,17 +41,23 @@ impl TryFrom<u64> for Search {
 
 impl Search {
     // Whether the search has a grid of targets.
-    pub fn has_targets(self) -> bool {
+    pub fn has_targets(self) -> bool
+        ensures { IsTrue result ↔ (number_of self ≤ 7) }
+    {
         self != Search::SumTargetsWithinTravelDistance
     }
 
     // Whether the search has a grid of obstacles.
-    pub fn has_obstacles(self) -> bool {
+    pub fn has_obstacles(self) -> bool
+        ensures { IsTrue result ↔ (number_of self ≡ 2) }
+    {
         self == Search::DistanceWithObstacles
     }
 
     // Whether the search has a grid of times.
-    pub fn has_times(self) -> bool {
+    pub fn has_times(self) -> bool
+        ensures { IsTrue result ↔ ((number_of self ≡ 3) ⊎ (5 ≤ number_of self)) }
+    {
         match self {
             Search::DistancesUpTo | Search::DistanceWithObstacles | Search::ValueAtClosestTarget =>
                 false,
@@ -64,7 +70,9 @@ impl Search {
     }
 
     // Whether the search has a grid of values, and is lent distances beside its answer.
-    pub fn has_values(self) -> bool {
+    pub fn has_values(self) -> bool
+        ensures { IsTrue result ↔ (4 ≤ number_of self) }
+    {
         match self {
             Search::DistancesUpTo | Search::DistanceWithObstacles | Search::TravelDistancesUpTo =>
                 false,
@@ -77,12 +85,16 @@ impl Search {
     }
 
     // Whether the search is lent two lists of cells.
-    pub fn has_lists(self) -> bool {
+    pub fn has_lists(self) -> bool
+        ensures { IsTrue result ↔ (number_of self ≡ 7) }
+    {
         self == Search::SumWithinTravelDistance
     }
 
     // Whether the search is lent marks of the cells that it has added.
-    pub fn has_added(self) -> bool {
+    pub fn has_added(self) -> bool
+        ensures { IsTrue result ↔ (number_of self ≡ 8) }
+    {
         self == Search::SumTargetsWithinTravelDistance
     }
 }

@@ -2,7 +2,7 @@
 ghost use Rattle.std.specs.Prelude.{◌≤◌, length};
 ghost use Rattle.replay.specs.Buffers.{most_answer_cells};
 
-use crate::buffers::{DIRTY_FLOAT_BITS, Held};
+use crate::buffers::Held;
 use crate::case::Case;
 use crate::grids::{CELLS, SLOTS};
 use crate::kinds::Search;
@@ -29,14 +29,13 @@ fn agrees_in(search: Search, case: &Case<'_>) -> bool
     requires { length case.now.bits.now ≤ most_answer_cells }
 {
     let n = case.bits.len();
-    let dirty = binary32::of_bits(DIRTY_FLOAT_BITS);
-    let mut cells = [dirty; CELLS];
-    let mut distances = [dirty; CELLS];
-    let mut marks = [0xA5; CELLS];
-    let mut listed = [u32::DIRTY; CELLS];
-    let mut adjacent = [u32::DIRTY; CELLS];
-    let mut added = [0xA5; CELLS];
-    let mut queue = [u32::DIRTY; SLOTS];
+    let mut cells = [f32::dirty(); CELLS];
+    let mut distances = [f32::dirty(); CELLS];
+    let mut marks = [u8::dirty(); CELLS];
+    let mut listed = [u32::dirty(); CELLS];
+    let mut adjacent = [u32::dirty(); CELLS];
+    let mut added = [u8::dirty(); CELLS];
+    let mut queue = [u32::dirty(); SLOTS];
     let mut lent = Lent {
         cells: &mut cells[..n],
         distances: &mut distances[..n],

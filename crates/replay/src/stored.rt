@@ -1,8 +1,11 @@
 // The stored answer of a case, and what every buffer must hold after the call.
+ghost use Rattle.std.specs.Prelude.{◌≡◌};
 ghost use Rattle.replay.specs.Reading.{GoesOn};
+ghost use Rattle.replay.specs.Stored.{clears};
 
+use crate::buffers::Held;
+use crate::grids;
 use crate::words::{Malformed, Reader};
-use crate::{buffers, grids};
 use calls::fill_cells;
 
 // Document 01's number of a refusal, with the index where it has one.
@@ -25,7 +28,7 @@ fn left_in_answer(number: u8) -> u32 {
     if number == OVER_BUDGET {
         binary32::NAN_BITS
     } else {
-        buffers::DIRTY_FLOAT_BITS
+        f32::dirty().bits()
     }
 }
 
@@ -91,7 +94,9 @@ pub fn stored_answer(reader: &mut Reader<'_>, cells: &mut [u32]) -> Result<Told,
 }
 
 // Whether the call cleared its work buffers: it did where it ran, so also before the last refusal.
-pub fn cleared(told: Told) -> bool {
+pub fn cleared(told: Told) -> bool
+    ensures { result ≡ clears told }
+{
     match told {
         Ok(_) => true,
         Err(refusal) => refusal.number == OVER_BUDGET,
