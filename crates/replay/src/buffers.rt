@@ -71,7 +71,7 @@ impl Held for f32 {
 
 // Whether the floats have these bits, one for one.
 pub fn same_bits(cells: &[f32], bits: &[u32]) -> bool
-    ensures { IsTrue result → SameBits cells.now bits.now }
+    ensures { IsTrue result ↔ SameBits cells.now bits.now }
 {
     cells.len() == bits.len()
         && cells
