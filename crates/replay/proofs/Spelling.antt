@@ -1,33 +1,23 @@
 -- Reading a text byte by byte: one byte more of a word, one digit more of a number. Assumes nothing.
 use Prim.Native.Nat.{ℕ, ◌+◌, ◌-◌, ◌*◌, ◌/◌, ◌%◌, ◌^◌, ◌≤◌, ◌<◌}
-use native.Mathlib.Nat.{lt_of_lt_of_le}
 use native.Mathlib.Numerals.{add-one}
 use native.Mathlib.Omega.{arith}
 use mathlib.Core.Path.{◌≡◌, sym, ap, subst, ◌∙◌}
+use mathlib.Core.Bool.{Bool, true, false, true≢false}
+use lib.Dec.{eqb}
+use Rattle.std.specs.List.{starts_with}
+use Rattle.std.specs.Cmp.Lexicographic.{bytes_decides}
 use mathlib.Core.List.{List, [], ◌∷◌, ◌++◌}
-use borrow.Author.Tests.{lt-ltb, le-ltb}
 use lib.ListN.{length, take, drop, get_or, length-drop}
-use lib.Pow.{pow-add, pow_mono}
-use lib.Seq.{take-suc, get_or-drop}
+use lib.Pow.{pow-add}
+use lib.Seq.{take-suc, get_or-drop, get_or-take}
 use Rattle.replay.specs.Words.{Spelled, last_digits, hex_digit_ascii}
-
--- The bytes of the digits: `0` to `9` and `a` to `f`.
-pub decimal_glyph : (b : ℕ) → 48 ≤ b → b ≤ 57 → hex_digit_ascii (b - 48) ≡ b
-decimal_glyph b low high = simp (lt-ltb (b - 48) 10 (omega arith)) (omega arith)
-
-pub letter_glyph : (b : ℕ) → 97 ≤ b → b ≤ 102 → hex_digit_ascii (b - 97 + 10) ≡ b
-letter_glyph b low high = simp (le-ltb (b - 97 + 10) 10 (omega arith)) (omega arith)
 
 module _ (text : List ℕ) (from k : ℕ) (within : from + k < length text) where
   one_more : take (k + 1) (drop from text) ≡ take k (drop from text) ++ (get_or text (from + k) 0 ∷ [])
   one_more =
       let h : k < length (drop from text) = omega (arith, length-drop from text) in
       rw (add-one, take-suc (drop from text) k 0, get_or-drop)
-
-  -- A word of which k bytes stand at `from`, and the next.
-  pub word_more : (word : List ℕ) → k < length word → get_or text (from + k) 0 ≡ get_or word k 0
-      → take k (drop from text) ≡ take k word → take (k + 1) (drop from text) ≡ take (k + 1) word
-  word_more word inside same before = one_more ∙ rw (before, same, add-one, take-suc word k 0)
 
   digit_more : (base v n d : ℕ) → n / base ≡ v → n % base ≡ d → hex_digit_ascii d ≡ get_or text (from + k) 0
       → take k (drop from text) ≡ last_digits base k v → take (k + 1) (drop from text) ≡ last_digits base (k + 1) n
@@ -50,20 +40,28 @@ module _ (text : List ℕ) (from to v d : ℕ) (after : from ≤ to) (within : t
   pub hex_more : d < 16 → Spelled 16 text from to v → Spelled 16 text from (to + 1) (v * 16 + d)
   hex_more small = at_next 16 (v * 16 + d) (omega arith) (omega arith)
 
--- Of no digits the number is 0.
-pub no_digits_spell_zero : (base : ℕ) (text : List ℕ) (from : ℕ) → Spelled base text from from 0
-no_digits_spell_zero base text from =
-    let e : from - from ≡ 0 = omega arith in
-    rw e
-
 -- The number of i hex digits is below 2 to the 4 times i.
 pub hex_bound : (v d i : ℕ) → v < 2 ^ (4 * i) → d < 16 → v * 16 + d < 2 ^ (4 * (i + 1))
 hex_bound v d i below small =
     let e : 4 * (i + 1) ≡ 4 * i + 4 = omega arith in
     rw (e, pow-add) (omega arith)
 
--- Seven hex digits and fewer leave room for one more, and eight fit 32 bits.
-pub hex_small : (v i j : ℕ) → v < 2 ^ (4 * i) → i ≤ j → v < 2 ^ (4 * j)
-hex_small v i j below few =
-    let h : 4 * i ≤ 4 * j = omega arith in
-    lt_of_lt_of_le below (pow_mono h)
+-- What `starts_with` answers of a word and the bytes that come next.
+pub starts : {b : Bool} {rest after : List ℕ} (word : List ℕ) → rest ≡ after → b ≡ starts_with eqb rest word → b ≡ true → take (length word) after ≡ word
+starts word e same so = rw (← e) (sym ((bytes_decides _ _).0 (sym same ∙ so)))
+
+pub starts_not : {b : Bool} {rest after : List ℕ} (word : List ℕ) → rest ≡ after → b ≡ starts_with eqb rest word → b ≡ false → take (length word) after ≡ word → ⊥
+starts_not word e same not stands =
+    true≢false (sym ((bytes_decides _ _).1 (sym (ap (take (length word)) e ∙ stands))) ∙ (sym same ∙ not))
+
+-- A byte of those that come next is one of the text.
+pub within_text : (text rest : List ℕ) (start i : ℕ) → rest ≡ drop start text → i < length rest → start + i < length text
+within_text text rest start i e inside =
+    let h : i < length text - start = rw (← length-drop, ← e) inside in
+    omega arith
+
+pub byte_of_rest : (text rest : List ℕ) (start i : ℕ) → rest ≡ drop start text → get_or rest i 0 ≡ get_or text (start + i) 0
+byte_of_rest text rest start i e = rw (e, get_or-drop)
+
+pub byte_of_first : (bytes rest : List ℕ) (i n : ℕ) → bytes ≡ take n rest → i < n → get_or bytes i 0 ≡ get_or rest i 0
+byte_of_first bytes rest i n e inside = rw (e, get_or-take)

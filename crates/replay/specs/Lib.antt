@@ -1,2 +1,5 @@
 pub mod Words
+pub mod Reading
+pub mod Search
 pub mod Buffers
+pub mod Stored

@@ -1,63 +1,55 @@
 // What the library answered, held against what is stored.
-use crate::stored::Told;
-use crate::{buffers, stored};
+ghost use Rattle.std.specs.Prelude.{◌≡◌, ◌≤◌, IsTrue};
+ghost use Rattle.replay.specs.Buffers.{AllAre, AllHave, SameBits, left_of, dirty_byte, dirty_word, dirty_float};
+ghost use Rattle.replay.specs.Search.{number_of};
+ghost use Rattle.replay.specs.Stored.{clears};
+
+use crate::buffers::{left, same_bits};
+use crate::case::Case;
+use crate::kinds::Search;
+use crate::lent::Lent;
+use crate::stored;
+use crate::stored::{Numbered, Told};
 use calls::{Answer, Refusal};
 
 // A refusal by its number, with its index where it has one.
-fn told_of_refusal(refusal: Refusal) -> Told {
-    match refusal {
-        Refusal::SizeOutOfBounds => Told::Refused(1),
-        Refusal::SizesDiffer => Told::Refused(2),
-        Refusal::WrongLength => Told::Refused(3),
-        Refusal::BadCellSize => Told::Refused(4),
-        Refusal::BadLimit => Told::Refused(5),
-        Refusal::NegativeTime(index) => Told::RefusedAt(6, index as u64),
-        Refusal::OverBudget(index) => Told::RefusedAt(7, index as u64),
-    }
+fn numbered(refusal: Refusal) -> Numbered {
+    let (number, index) = match refusal {
+        Refusal::SizeOutOfBounds => (1, None),
+        Refusal::SizesDiffer => (2, None),
+        Refusal::WrongLength => (3, None),
+        Refusal::BadCellSize => (4, None),
+        Refusal::BadLimit => (5, None),
+        Refusal::NegativeTime(index) => (6, Some(index)),
+        Refusal::OverBudget(index) => (7, Some(index)),
+    };
+    Numbered { number, index }
 }
 
 // What the library answered, by its numbers.
 fn told_of(answer: Answer) -> Told {
     match answer {
-        Answer::Accepted(counts) => Told::Accepted(counts.takes),
-        Answer::Refused(refusal) => told_of_refusal(refusal),
+        Answer::Accepted(counts) => Ok(counts.takes),
+        Answer::Refused(refusal) => Err(numbered(refusal)),
     }
 }
 
-// Whether the answer, its cells, the marks and the queue are as stored, which every search has.
-pub fn as_stored(
-    answer: Answer,
-    told: Told,
-    cells: &[f32],
-    bits: &[u32],
-    marks: &[u8],
-    queue: &[u32],
-) -> bool {
-    if !stored::same_told(told_of(answer), told) {
-        return false;
-    }
-    if !buffers::same_bits(cells, bits) {
-        return false;
-    }
-    let cleared = stored::cleared(told);
-    if !buffers::bytes_left(marks, cleared) {
-        return false;
-    }
-    buffers::words_left(queue, cleared)
-}
-
-// The same where the search has a buffer of distances too.
-pub fn as_stored_with_distances(
-    answer: Answer,
-    told: Told,
-    cells: &[f32],
-    bits: &[u32],
-    distances: &[f32],
-    marks: &[u8],
-    queue: &[u32],
-) -> bool {
-    if !buffers::floats_left(distances, stored::cleared(told)) {
-        return false;
-    }
-    as_stored(answer, told, cells, bits, marks, queue)
+// Whether the answer, its cells and each work buffer that the search is lent are as stored.
+pub fn as_stored(answer: Answer, search: Search, case: &Case<'_>, lent: &Lent<'_>) -> bool
+    ensures cells { IsTrue result → SameBits lent.now.cells.now case.now.bits.now }
+    ensures marks { IsTrue result → AllAre lent.now.marks.now (left_of dirty_byte (clears case.now.told)) }
+    ensures queue { IsTrue result → AllAre lent.now.queue.now (left_of dirty_word (clears case.now.told)) }
+    ensures distances { IsTrue result → 4 ≤ number_of search → AllHave lent.now.distances.now (left_of dirty_float (clears case.now.told)) }
+    ensures listed { IsTrue result → number_of search ≡ 7 → AllAre lent.now.listed.now (left_of dirty_word (clears case.now.told)) }
+    ensures adjacent { IsTrue result → number_of search ≡ 7 → AllAre lent.now.adjacent.now (left_of dirty_word (clears case.now.told)) }
+    ensures added { IsTrue result → number_of search ≡ 8 → AllAre lent.now.added.now (left_of dirty_byte (clears case.now.told)) }
+{
+    let cleared = stored::cleared(case.told);
+    told_of(answer) == case.told
+        && same_bits(lent.cells, case.bits)
+        && left(lent.marks, cleared)
+        && left(lent.queue, cleared)
+        && (!search.has_values() || left(lent.distances, cleared))
+        && (!search.has_lists() || (left(lent.listed, cleared) && left(lent.adjacent, cleared)))
+        && (!search.has_added() || left(lent.added, cleared))
 }

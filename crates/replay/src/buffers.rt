@@ -1,95 +1,95 @@
 // Buffers that hold something before a call, and what they hold after it.
-ghost use Rattle.std.specs.Prelude.{◌≡◌, true};
-ghost use Rattle.replay.specs.Buffers.{AllAre, AllHave, SameBits};
+ghost use Rattle.std.specs.Prelude.{ℕ, ◌≡◌, ◌↔◌, IsTrue};
+ghost use Rattle.std.specs.Float.{nan, binary32};
+ghost use Rattle.std.specs.Float.Ieee.{to_bits};
+ghost use Rattle.replay.specs.Buffers.{AllHold, SameBits, left_of, dirty_byte, dirty_word, dirty_float};
 
-// What each byte of a lent buffer holds before the call.
-pub const DIRTY_BYTE: u8 = 0xA5;
+// A cell of a lent buffer, which is compared by its bits.
+pub trait Held: Copy {
+    ghost bits: { Self → ℕ };
 
-// What each index of a lent buffer holds before the call.
-pub const DIRTY_WORD: u32 = 0xA5A5_A5A5;
+    // The cell that a proof reads past a buffer's end.
+    ghost past: { Self };
 
-// What each float of a lent buffer holds before the call.
-pub const DIRTY_FLOAT: f32 = -77.25;
+    ghost dirty_bits: { ℕ };
+
+    // What each cell holds before the call.
+    fn dirty() -> Self
+        ensures { bits result ≡ dirty_bits };
+
+    fn bits(self) -> u32
+        ensures { result ≡ bits self };
+}
+
+impl Held for u8 {
+    ghost bits = { λ byte. byte };
+
+    ghost past = { 0 };
+
+    ghost dirty_bits = { dirty_byte };
+
+    fn dirty() -> u8 {
+        0xA5
+    }
+
+    fn bits(self) -> u32 {
+        u32::from(self)
+    }
+}
+
+impl Held for u32 {
+    ghost bits = { λ word. word };
+
+    ghost past = { 0 };
+
+    ghost dirty_bits = { dirty_word };
+
+    fn dirty() -> u32 {
+        0xA5A5_A5A5
+    }
+
+    fn bits(self) -> u32 {
+        self
+    }
+}
+
+impl Held for f32 {
+    ghost bits = { to_bits binary32 };
+
+    ghost past = { nan };
+
+    ghost dirty_bits = { dirty_float };
+
+    fn dirty() -> f32 {
+        -77.25
+    }
+
+    fn bits(self) -> u32 {
+        binary32::bits_of(self)
+    }
+}
 
 // Whether the floats have these bits, one for one.
 pub fn same_bits(cells: &[f32], bits: &[u32]) -> bool
-    ensures { result ≡ true → SameBits cells.now bits.now }
+    ensures { IsTrue result ↔ SameBits cells.now bits.now }
 {
-    if cells.len() != bits.len() {
-        return false;
-    }
-    let mut i = 0;
-    while i < cells.len() {
-        if binary32::bits_of(cells[i]) != bits[i] {
-            return false;
-        }
-        i += 1;
-    }
-    true
+    cells.len() == bits.len()
+        && cells
+            .iter()
+            .zip(bits)
+            .all(|(cell, bits)| binary32::bits_of(*cell) == *bits)
 }
 
-// Whether every float has these bits.
-fn floats_are(cells: &[f32], bits: u32) -> bool
-    ensures { result ≡ true → AllHave cells.now bits }
+// Whether every cell has these bits.
+fn all_have<T: Held>(cells: &[T], bits: u32) -> bool
+    ensures { IsTrue result ↔ AllHold T.bits T.past cells.now bits }
 {
-    let mut i = 0;
-    while i < cells.len() {
-        if binary32::bits_of(cells[i]) != bits {
-            return false;
-        }
-        i += 1;
-    }
-    true
+    cells.iter().all(|cell| cell.bits() == bits)
 }
 
-// Whether every byte is this one.
-fn bytes_are(cells: &[u8], byte: u8) -> bool
-    ensures { result ≡ true → AllAre cells.now byte }
+// Whether a work buffer was cleared, or else was left as it was.
+pub fn left<T: Held>(cells: &[T], cleared: bool) -> bool
+    ensures { IsTrue result ↔ AllHold T.bits T.past cells.now (left_of T.dirty_bits cleared) }
 {
-    let mut i = 0;
-    while i < cells.len() {
-        if cells[i] != byte {
-            return false;
-        }
-        i += 1;
-    }
-    true
-}
-
-// Whether every index is this one.
-fn words_are(cells: &[u32], word: u32) -> bool
-    ensures { result ≡ true → AllAre cells.now word }
-{
-    let mut i = 0;
-    while i < cells.len() {
-        if cells[i] != word {
-            return false;
-        }
-        i += 1;
-    }
-    true
-}
-
-// Whether a work buffer of floats was cleared, or else was left as it was.
-pub fn floats_left(cells: &[f32], cleared: bool) -> bool {
-    if cleared {
-        return floats_are(cells, 0);
-    }
-    floats_are(cells, binary32::bits_of(DIRTY_FLOAT))
-}
-
-// Whether a work buffer of bytes was cleared, or else was left as it was.
-pub fn bytes_left(cells: &[u8], cleared: bool) -> bool {
-    if cleared {
-        return bytes_are(cells, 0);
-    }
-    bytes_are(cells, DIRTY_BYTE)
-}
-
-// Whether a work buffer of indices was cleared, or else was left as it was.
-pub fn words_left(cells: &[u32], cleared: bool) -> bool {
-    if cleared {
-        return words_are(cells, 0);
-    }
-    words_are(cells, DIRTY_WORD)
+    all_have(cells, if cleared { 0 } else { T::dirty().bits() })
 }

@@ -1,10 +1,10 @@
 // The grids of a case, read into lent buffers.
-ghost use Rattle.std.specs.Prelude.{◌≤◌, length};
+ghost use Rattle.std.specs.Prelude.{◌≤◌};
 ghost use Rattle.replay.specs.Buffers.{most_answer_cells};
+ghost use Rattle.replay.specs.Reading.{GoesOn};
 
-use crate::words;
-use crate::words::At;
-use rules::Size;
+use crate::words::{Malformed, Reader};
+use rules::{Grid, Size};
 
 // The most cells of an answer.
 pub const CELLS: usize = 1024;
@@ -12,142 +12,81 @@ pub const CELLS: usize = 1024;
 // The most slots of a queue, which has one more, and the most cells of a stored grid.
 pub const SLOTS: usize = CELLS + 1;
 
-// A grid that was read: its size, the cells that an answer of that size has, how many cells stand
-// in its buffer, and the place past it.
-#[derive(Clone, Copy)]
-pub struct Grid {
-    pub size: Size,
-    pub n: usize,
-    pub len: usize,
-    pub at: At,
+// What the text has for a cell: a number up to 255 for a byte, and its bits for a float.
+pub trait Cell: Copy {
+    fn read(reader: &mut Reader<'_>) -> Result<Self, Malformed>
+        ensures { GoesOn reader.old reader.new };
 }
 
-// A grid that the search does not have.
-fn no_grid(at: At) -> Grid
-    ensures { (result.len ≤ 0) × (result.n ≤ most_answer_cells) }
+impl Cell for u8 {
+    fn read(reader: &mut Reader<'_>) -> Result<Self, Malformed> {
+        Ok(reader.decimal(255)? as u8)
+    }
+}
+
+impl Cell for u32 {
+    fn read(reader: &mut Reader<'_>) -> Result<Self, Malformed> {
+        reader.hex()
+    }
+}
+
+impl Cell for f32 {
+    fn read(reader: &mut Reader<'_>) -> Result<Self, Malformed> {
+        Ok(binary32::of_bits(reader.hex()?))
+    }
+}
+
+// Reads as many cells as `cells` holds, a space before each.
+pub fn read_cells<T: Cell>(reader: &mut Reader<'_>, cells: &mut [T]) -> Result<(), Malformed>
+    ensures { GoesOn reader.old reader.new }
 {
+    for cell in cells.iter_mut() {
+        reader.literal(b" ")?;
+        *cell = T::read(reader)?;
+    }
+    Ok(())
+}
+
+// The grid that a search does not have.
+pub fn no_grid<T>(room: &[T]) -> Grid<'_, T> {
     Grid {
         size: Size { rows: 0, cols: 0 },
-        n: 0,
-        len: 0,
-        at,
+        cells: &room[..0],
     }
+}
+
+// Reads a grid's line: its name, its size, the number of its cells, which `room` holds at least, and
+// the cells, which go to the start of `room`.
+pub fn read_grid<'a, T: Cell>(
+    reader: &mut Reader<'_>,
+    name: &[u8],
+    room: &'a mut [T],
+) -> Result<Grid<'a, T>, Malformed>
+    ensures { GoesOn reader.old reader.new }
+{
+    reader.literal(name)?;
+    let rows = reader.signed()?;
+    reader.literal(b" ")?;
+    let cols = reader.signed()?;
+    reader.literal(b" ")?;
+    let len = reader.decimal(room.len() as u64)? as usize;
+    let cells = &mut room[..len];
+    read_cells(reader, cells)?;
+    reader.literal(b"\n")?;
+    Ok(Grid {
+        size: Size { rows, cols },
+        cells,
+    })
 }
 
 // Rows times columns, and 0 where that is more than an answer can have here.
-fn cell_count(rows: u64, cols: u64) -> usize
+pub fn cell_count(size: Size) -> usize
     ensures { result ≤ most_answer_cells }
 {
-    let most = CELLS as u64;
-    if most < rows {
-        return 0;
-    }
-    if most < cols {
-        return 0;
-    }
-    let n = rows * cols;
-    if most < n {
-        return 0;
-    }
-    n as usize
-}
-
-// A grid's name, size and number of cells, which is at most `most`. The place is before the cells.
-fn shape(text: &[u8], at: At, name: &[u8], most: usize) -> Grid
-    ensures { (result.len ≤ most) × (result.n ≤ most_answer_cells) }
-{
-    let rows = words::signed(text, words::literal(text, at, name));
-    let at = rows.at;
-    let cols = words::signed(text, words::literal(text, at, b" "));
-    let at = cols.at;
-    let len = words::decimal(text, words::literal(text, at, b" "), most as u64);
-    let at = len.at;
-    Grid {
-        size: Size {
-            rows: rows.value,
-            cols: cols.value,
-        },
-        n: cell_count(rows.cells, cols.cells),
-        len: len.value as usize,
-        at,
-    }
-}
-
-// Reads as many bytes as `cells` holds, a space before each, and answers the place past them.
-fn bytes(text: &[u8], from: At, cells: &mut [u8]) -> At {
-    let mut at = from;
-    let mut i = 0;
-    while i < cells.len() {
-        let cell = words::decimal(text, words::literal(text, at, b" "), 255);
-        cells[i] = cell.value as u8;
-        at = cell.at;
-        i += 1;
-    }
-    at
-}
-
-// Reads as many floats as `cells` holds, a space before each, and answers the place past them.
-fn float_cells(text: &[u8], from: At, cells: &mut [f32]) -> At {
-    let mut at = from;
-    let mut i = 0;
-    while i < cells.len() {
-        let cell = words::hex(text, words::literal(text, at, b" "));
-        cells[i] = binary32::of_bits(cell.value);
-        at = cell.at;
-        i += 1;
-    }
-    at
-}
-
-// Reads as many patterns of bits as `cells` holds, a space before each, and answers the place past them.
-pub fn patterns(text: &[u8], from: At, cells: &mut [u32]) -> At {
-    let mut at = from;
-    let mut i = 0;
-    while i < cells.len() {
-        let cell = words::hex(text, words::literal(text, at, b" "));
-        cells[i] = cell.value;
-        at = cell.at;
-        i += 1;
-    }
-    at
-}
-
-// The line of a grid of bytes, where the search has it.
-pub fn byte_grid(text: &[u8], at: At, has: bool, name: &[u8], cells: &mut [u8]) -> Grid
-    ensures { (result.len ≤ length cells.old) × (result.n ≤ most_answer_cells) }
-{
-    if !has {
-        return no_grid(at);
-    }
-    let grid = shape(text, at, name, cells.len());
-    let at = grid.at;
-    let len = grid.len;
-    let at = bytes(text, at, &mut cells[..len]);
-    let size = grid.size;
-    Grid {
-        size,
-        n: grid.n,
-        len,
-        at: words::literal(text, at, b"\n"),
-    }
-}
-
-// The line of a grid of floats, where the search has it.
-pub fn float_grid(text: &[u8], at: At, has: bool, name: &[u8], cells: &mut [f32]) -> Grid
-    ensures { (result.len ≤ length cells.old) × (result.n ≤ most_answer_cells) }
-{
-    if !has {
-        return no_grid(at);
-    }
-    let grid = shape(text, at, name, cells.len());
-    let at = grid.at;
-    let len = grid.len;
-    let at = float_cells(text, at, &mut cells[..len]);
-    let size = grid.size;
-    Grid {
-        size,
-        n: grid.n,
-        len,
-        at: words::literal(text, at, b"\n"),
+    let rows = usize::try_from(size.rows).unwrap_or(0);
+    let cols = usize::try_from(size.cols).unwrap_or(0);
+    match rows.checked_mul(cols) {
+        Some(n) if n <= CELLS => n,
+        _ => 0,
     }
 }

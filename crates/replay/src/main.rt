@@ -1,7 +1,8 @@
 // Runs the oracle's stored answers through the library and compares every bit: a line for each file.
 #![tactic(auto)]
 
-ghost use Rattle.std.specs.Prelude.{◌≡◌, ◌≤◌, length, IfOk};
+ghost use Rattle.std.specs.Prelude.{◌≡◌, ◌≤◌, ◌<◌, length, IfOk};
+ghost use Rattle.replay.specs.Reading.{GoesOn};
 
 mod answers;
 mod buffers;
@@ -10,93 +11,86 @@ mod by_sum;
 mod by_value;
 mod case;
 mod grids;
+mod kinds;
+mod lent;
 mod searches;
 mod settings;
 mod stored;
 mod words;
 
+use case::Room;
 use std::io::Read;
 use std::rt::Files;
-use std::{fs, io};
-use words::At;
+use std::{fmt, fs, io};
+use words::{Malformed, Reader};
 
-// What a case came to: it agrees and ends before this byte, it differs, or this byte is malformed.
-#[derive(Clone, Copy)]
-enum Step {
-    Agrees(usize),
-    Differs,
-    Malformed(usize),
-}
+// The files, and what their lines begin with: one for each search, one for document 01's small grids,
+// and one for the cases on which two programs once differed.
+const FILES: [(&str, &str); 10] = [
+    ("search-1.txt", "search 1"),
+    ("search-2.txt", "search 2"),
+    ("search-3.txt", "search 3"),
+    ("search-4.txt", "search 4"),
+    ("search-5.txt", "search 5"),
+    ("search-6.txt", "search 6"),
+    ("search-7.txt", "search 7"),
+    ("search-8.txt", "search 8"),
+    ("small.txt", "small grids"),
+    ("differed.txt", "once differed"),
+];
 
-// What a text came to: so many cases agree, this case differs, or this byte is malformed.
-#[derive(Clone, Copy)]
-enum Outcome {
-    Agree(u64),
+// Why a text does not agree: this case differs, or this word is malformed.
+#[derive(Clone, Copy, Debug, PartialEq, Eq)]
+enum Failure {
     Differs(u64),
-    Malformed(usize),
+    Malformed(Malformed),
 }
 
-// The case at a byte: read, run and compared.
-fn replay_case(text: &[u8], pos: usize) -> Step {
-    let mut targets = [0u8; grids::SLOTS];
-    let mut obstacles = [0u8; grids::SLOTS];
-    let mut times = [0.0f32; grids::SLOTS];
-    let mut values = [0.0f32; grids::SLOTS];
-    let mut bits = [0u32; grids::CELLS];
-    let case = case::read_case(
-        text,
-        pos,
-        &mut targets,
-        &mut obstacles,
-        &mut times,
-        &mut values,
-        &mut bits,
-    );
-    let end = case.at;
-    if !end.ok {
-        return Step::Malformed(end.pos);
+impl From<Malformed> for Failure {
+    fn from(malformed: Malformed) -> Failure {
+        Failure::Malformed(malformed)
     }
-    let settings = case.settings;
-    let read = case.grids;
-    let told = case.told;
-    if searches::agrees(
-        settings, read, told, &targets, &obstacles, &times, &values, &bits,
-    ) {
-        return Step::Agrees(end.pos);
-    }
-    Step::Differs
 }
 
-// All cases of a text, up to the first that does not agree.
-fn replay_text(text: &[u8]) -> Outcome {
-    let mut pos = words::past_comments(text, 0);
-    let mut count: u64 = 0;
-    while pos < text.len() {
-        match replay_case(text, pos) {
-            Step::Agrees(next) => {
-                if next <= pos {
-                    return Outcome::Malformed(pos);
-                }
-                pos = words::past_comments(text, next);
-                count += 1;
-            }
-            Step::Differs => {
-                return Outcome::Differs(count);
-            }
-            Step::Malformed(at) => {
-                return Outcome::Malformed(at);
-            }
+impl fmt::Display for Failure {
+    fn fmt<W: fmt::Write>(&self, f: &mut fmt::Formatter<W>) -> fmt::Result {
+        match self {
+            Failure::Differs(count) => write!(f, "case {count} differs"),
+            Failure::Malformed(malformed) => write!(f, "{malformed}"),
         }
     }
-    Outcome::Agree(count)
+}
+
+// Whether the case that comes next agrees: read, run and compared.
+fn replay_case(reader: &mut Reader<'_>) -> Result<bool, Malformed>
+    ensures goes_on { GoesOn reader.old reader.new }
+    ensures further { IfOk result (λ _. reader.old.pos < reader.new.pos) }
+{
+    let mut room = Room::new();
+    let case = case::read_case(reader, &mut room)?;
+    Ok(searches::agrees(&case))
+}
+
+// How many cases of a text agree, where all do.
+fn replay_text(text: &[u8]) -> Result<u64, Failure> {
+    let mut reader = Reader::new(text);
+    let mut count: u64 = 0;
+    reader.past_comments();
+    while reader.pos < text.len() {
+        if !replay_case(&mut reader)? {
+            return Err(Failure::Differs(count));
+        }
+        count += 1;
+        reader.past_comments();
+    }
+    Ok(count)
 }
 
 // Prints what a text came to.
-fn print_outcome<R: Print>(rt: &R, outcome: Outcome) -> io::Result<()> {
+fn print_outcome<R: Print>(rt: &R, outcome: Result<u64, Failure>) -> io::Result<()> {
     match outcome {
-        Outcome::Agree(count) => println!(rt; "{count} cases agree"),
-        Outcome::Differs(count) => println!(rt; "case {count} differs"),
-        Outcome::Malformed(pos) => println!(rt; "malformed at byte {pos}"),
+        Ok(count) => println!(rt; "{count} cases agree"),
+        Err(failure) => println!(rt; "{failure}"),
     }
 }
 
@@ -135,23 +129,16 @@ fn replay_open<R: Print, F: Read>(rt: &R, file: &mut F) -> io::Result<()> {
 
 // Replays the file at a path, and prints its line.
 fn replay<R: Files + Print>(rt: &R, path: &str, name: &str) -> io::Result<()> {
-    print!(rt; "{name}")?;
+    print!(rt; "{name}: ")?;
     match fs::open(rt, path) {
         Ok(mut file) => replay_open(rt, &mut file),
         Err(_) => println!(rt; "can't be opened"),
     }
 }
 
-// A line for each search, one for document 01's small grids, and one for the cases on which two programs once differed.
 fn main(rt: HostRuntime) -> io::Result<()> {
-    replay(&rt, "search-1.txt", "search 1: ")?;
-    replay(&rt, "search-2.txt", "search 2: ")?;
-    replay(&rt, "search-3.txt", "search 3: ")?;
-    replay(&rt, "search-4.txt", "search 4: ")?;
-    replay(&rt, "search-5.txt", "search 5: ")?;
-    replay(&rt, "search-6.txt", "search 6: ")?;
-    replay(&rt, "search-7.txt", "search 7: ")?;
-    replay(&rt, "search-8.txt", "search 8: ")?;
-    replay(&rt, "small.txt", "small grids: ")?;
-    replay(&rt, "differed.txt", "once differed: ")
+    for (path, name) in FILES {
+        replay(&rt, path, name)?;
+    }
+    Ok(())
 }

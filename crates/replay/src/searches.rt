@@ -2,135 +2,59 @@
 ghost use Rattle.std.specs.Prelude.{◌≤◌, length};
 ghost use Rattle.replay.specs.Buffers.{most_answer_cells};
 
-use crate::case::Grids;
-use crate::settings::Settings;
-use crate::stored::Told;
-use crate::{buffers, by_distance, by_sum, by_value, grids};
+use crate::buffers::Held;
+use crate::case::Case;
+use crate::grids::{CELLS, SLOTS};
+use crate::kinds::Search;
+use crate::lent::Lent;
+use crate::{answers, by_distance, by_sum, by_value};
+use calls::Answer;
 
-// Whether the case's search agrees, on buffers of the answer's length. A search that is not there
-// agrees with nothing.
-fn agrees_in(
-    settings: Settings,
-    read: Grids,
-    told: Told,
-    targets: &[u8],
-    obstacles: &[u8],
-    times: &[f32],
-    values: &[f32],
-    bits: &[u32],
-    cells: &mut [f32],
-    distances: &mut [f32],
-    marks: &mut [u8],
-    listed: &mut [u32],
-    adjacent: &mut [u32],
-    added: &mut [u8],
-    queue: &mut [u32],
-) -> bool {
-    let search = settings.search;
+// What the search answers.
+fn run(search: Search, case: &Case<'_>, lent: &mut Lent<'_>) -> Answer {
     match search {
-        1 => by_distance::search_1(settings, read, told, targets, bits, cells, marks, queue),
-        2 => by_distance::search_2(
-            settings, read, told, targets, obstacles, bits, cells, marks, queue,
-        ),
-        3 => by_distance::search_3(
-            settings, read, told, targets, times, bits, cells, marks, queue,
-        ),
-        4 => by_value::search_4(
-            read, told, targets, values, bits, cells, distances, marks, queue,
-        ),
-        5 => by_value::search_5(
-            read, told, targets, times, values, bits, cells, distances, marks, queue,
-        ),
-        6 => by_value::search_6(
-            settings, read, told, targets, times, values, bits, cells, distances, marks, queue,
-        ),
-        7 => by_sum::search_7(
-            settings, read, told, targets, times, values, bits, cells, distances, marks, listed,
-            adjacent, queue,
-        ),
-        8 => by_sum::search_8(
-            settings, read, told, times, values, bits, cells, distances, marks, added, queue,
-        ),
-        _ => false,
+        Search::DistancesUpTo => by_distance::search_1(case, lent),
+        Search::DistanceWithObstacles => by_distance::search_2(case, lent),
+        Search::TravelDistancesUpTo => by_distance::search_3(case, lent),
+        Search::ValueAtClosestTarget => by_value::search_4(case, lent),
+        Search::ValueAtClosestTravelTarget => by_value::search_5(case, lent),
+        Search::ValueAtClosestLessThanTravelTarget => by_value::search_6(case, lent),
+        Search::SumWithinTravelDistance => by_sum::search_7(case, lent),
+        Search::SumTargetsWithinTravelDistance => by_sum::search_8(case, lent),
     }
 }
 
-// Whether the case's search agrees, on the grids that were read.
-fn agrees_on(
-    settings: Settings,
-    read: Grids,
-    told: Told,
-    targets: &[u8],
-    obstacles: &[u8],
-    times: &[f32],
-    values: &[f32],
-    bits: &[u32],
-) -> bool
-    requires { length bits.now ≤ most_answer_cells }
+// Whether the search agrees with the case.
+fn agrees_in(search: Search, case: &Case<'_>) -> bool
+    requires { length case.now.bits.now ≤ most_answer_cells }
 {
-    let n = bits.len();
-    let slots = n + 1;
-    let mut cells = [buffers::DIRTY_FLOAT; grids::CELLS];
-    let mut distances = [buffers::DIRTY_FLOAT; grids::CELLS];
-    let mut marks = [buffers::DIRTY_BYTE; grids::CELLS];
-    let mut listed = [buffers::DIRTY_WORD; grids::CELLS];
-    let mut adjacent = [buffers::DIRTY_WORD; grids::CELLS];
-    let mut added = [buffers::DIRTY_BYTE; grids::CELLS];
-    let mut queue = [buffers::DIRTY_WORD; grids::SLOTS];
-    agrees_in(
-        settings,
-        read,
-        told,
-        targets,
-        obstacles,
-        times,
-        values,
-        bits,
-        &mut cells[..n],
-        &mut distances[..n],
-        &mut marks[..n],
-        &mut listed[..n],
-        &mut adjacent[..n],
-        &mut added[..n],
-        &mut queue[..slots],
-    )
+    let n = case.bits.len();
+    let mut cells = [f32::dirty(); CELLS];
+    let mut distances = [f32::dirty(); CELLS];
+    let mut marks = [u8::dirty(); CELLS];
+    let mut listed = [u32::dirty(); CELLS];
+    let mut adjacent = [u32::dirty(); CELLS];
+    let mut added = [u8::dirty(); CELLS];
+    let mut queue = [u32::dirty(); SLOTS];
+    let mut lent = Lent {
+        cells: &mut cells[..n],
+        distances: &mut distances[..n],
+        marks: &mut marks[..n],
+        listed: &mut listed[..n],
+        adjacent: &mut adjacent[..n],
+        added: &mut added[..n],
+        queue: &mut queue[..n + 1],
+    };
+    let answer = run(search, case, &mut lent);
+    answers::as_stored(answer, search, case, &lent)
 }
 
-// Whether the case's search agrees. The grids and the answer's bits stand at the start of the
-// buffers.
-pub fn agrees(
-    settings: Settings,
-    read: Grids,
-    told: Told,
-    targets: &[u8],
-    obstacles: &[u8],
-    times: &[f32],
-    values: &[f32],
-    bits: &[u32],
-) -> bool
-    requires targets_fit { read.targets.len ≤ length targets.now }
-    requires obstacles_fit { read.obstacles.len ≤ length obstacles.now }
-    requires times_fit { read.times.len ≤ length times.now }
-    requires values_fit { read.values.len ≤ length values.now }
-    requires few_cells { (read.n ≤ most_answer_cells) × (read.n ≤ length bits.now) }
+// Whether the case's search agrees. A search that is not there agrees with nothing.
+pub fn agrees(case: &Case<'_>) -> bool
+    requires { length case.now.bits.now ≤ most_answer_cells }
 {
-    let grid = read.targets;
-    let targets_len = grid.len;
-    let grid = read.obstacles;
-    let obstacles_len = grid.len;
-    let grid = read.times;
-    let times_len = grid.len;
-    let grid = read.values;
-    let values_len = grid.len;
-    let n = read.n;
-    agrees_on(
-        settings,
-        read,
-        told,
-        &targets[..targets_len],
-        &obstacles[..obstacles_len],
-        &times[..times_len],
-        &values[..values_len],
-        &bits[..n],
-    )
+    match case.settings.search {
+        Some(search) => agrees_in(search, case),
+        None => false,
+    }
 }

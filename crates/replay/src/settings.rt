@@ -1,57 +1,59 @@
 // The two lines at a case's start.
-use crate::words;
-use crate::words::At;
+ghost use Rattle.std.specs.Prelude.{◌<◌, IfOk};
+ghost use Rattle.replay.specs.Reading.{GoesOn};
+
+use crate::kinds::Search;
+use crate::words::{Malformed, Reader};
 use rules::{BarrierDiagonals, Spacing};
 
-// The search with its flags and numbers, and the place of its grids.
+// The greatest number of a search.
+const LAST_SEARCH: u64 = 8;
+
+// The search with its flags and numbers. The number 0 is read, and is that of no search.
 #[derive(Clone, Copy)]
 pub struct Settings {
-    pub search: u64,
+    pub search: Option<Search>,
     pub diagonals: BarrierDiagonals,
     pub adjacent: bool,
     pub spacing: Spacing,
-    pub at: At,
 }
 
 // A flag, 0 or 1, after its name.
-fn flag(text: &[u8], at: At, name: &[u8]) -> words::Number {
-    words::decimal(text, words::literal(text, at, name), 1)
+fn flag(reader: &mut Reader<'_>, name: &[u8]) -> Result<bool, Malformed>
+    ensures { GoesOn reader.old reader.new }
+{
+    reader.literal(name)?;
+    Ok(reader.decimal(1)? == 1)
 }
 
 // A float after its name.
-fn float(text: &[u8], at: At, name: &[u8]) -> words::Bits {
-    words::hex(text, words::literal(text, at, name))
-}
-
-// The diagonals that a flag stands for.
-fn diagonals_of(flag: u64) -> BarrierDiagonals {
-    if flag == 0 {
-        BarrierDiagonals::Include
-    } else {
-        BarrierDiagonals::Exclude
-    }
+fn float(reader: &mut Reader<'_>, name: &[u8]) -> Result<f32, Malformed>
+    ensures { GoesOn reader.old reader.new }
+{
+    reader.literal(name)?;
+    Ok(binary32::of_bits(reader.hex()?))
 }
 
 // The two lines at the start of a case.
-pub fn head(text: &[u8], at: At) -> Settings {
-    let search = words::decimal(text, words::literal(text, at, b"search "), 8);
-    let at = search.at;
-    let diagonals = flag(text, at, b" diagonals ");
-    let at = diagonals.at;
-    let adjacent = flag(text, at, b" adjacent ");
-    let at = adjacent.at;
-    let cell_size = float(text, at, b"\ncell_size ");
-    let at = cell_size.at;
-    let limit = float(text, at, b" limit ");
-    let at = limit.at;
-    Settings {
-        search: search.value,
-        diagonals: diagonals_of(diagonals.value),
-        adjacent: adjacent.value == 1,
-        spacing: Spacing {
-            cell_size: binary32::of_bits(cell_size.value),
-            limit: binary32::of_bits(limit.value),
+pub fn head(reader: &mut Reader<'_>) -> Result<Settings, Malformed>
+    ensures goes_on { GoesOn reader.old reader.new }
+    ensures further { IfOk result (λ _. reader.old.pos < reader.new.pos) }
+{
+    reader.literal(b"search ")?;
+    let search = Search::try_from(reader.decimal(LAST_SEARCH)?).ok();
+    let excludes = flag(reader, b" diagonals ")?;
+    let adjacent = flag(reader, b" adjacent ")?;
+    let cell_size = float(reader, b"\ncell_size ")?;
+    let limit = float(reader, b" limit ")?;
+    reader.literal(b"\n")?;
+    Ok(Settings {
+        search,
+        diagonals: if excludes {
+            BarrierDiagonals::Exclude
+        } else {
+            BarrierDiagonals::Include
         },
-        at: words::literal(text, at, b"\n"),
-    }
+        adjacent,
+        spacing: Spacing { cell_size, limit },
+    })
 }

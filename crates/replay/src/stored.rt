@@ -1,122 +1,104 @@
 // The stored answer of a case, and what every buffer must hold after the call.
-use crate::words::At;
-use crate::{buffers, grids, words};
+ghost use Rattle.std.specs.Prelude.{◌≡◌};
+ghost use Rattle.replay.specs.Reading.{GoesOn};
+ghost use Rattle.replay.specs.Stored.{clears};
+
+use crate::buffers::Held;
+use crate::grids;
+use crate::words::{Malformed, Reader};
 use calls::fill_cells;
 
-// An answer: the takes, or document 01's number of the refusal, with the index where it has one.
-#[derive(Clone, Copy)]
-pub enum Told {
-    Accepted(u64),
-    Refused(u64),
-    RefusedAt(u64, u64),
+// Document 01's number of a refusal, with the index where it has one.
+#[derive(Clone, Copy, Debug, PartialEq, Eq)]
+pub struct Numbered {
+    pub number: u8,
+    pub index: Option<u32>,
 }
 
-// The stored answer, and the place past it.
-#[derive(Clone, Copy)]
-pub struct Stored {
-    pub told: Told,
-    pub at: At,
-}
+// An answer: the takes, or the refusal.
+pub type Told = Result<u64, Numbered>;
 
-// The bits that a refusal leaves in each cell of the answer: 7 has the one NaN, and any other
-// number what was there before the call.
-fn left_in_answer(number: u64) -> u32 {
-    if number == 7 {
+// The number of the refusal for a cell over the budget, which is the last. It alone comes of a call
+// that ran.
+const OVER_BUDGET: u8 = 7;
+
+// The bits that a refusal leaves in each cell of the answer: the last has the one NaN, and any other
+// what was there before the call.
+fn left_in_answer(number: u8) -> u32 {
+    if number == OVER_BUDGET {
         binary32::NAN_BITS
     } else {
-        binary32::bits_of(buffers::DIRTY_FLOAT)
+        f32::dirty().bits()
+    }
+}
+
+// Reads how many cells the answer has, a space before it, which must be as many as `wanted`. Where
+// an answer has cells, another number of them is malformed from its space on.
+fn length(reader: &mut Reader<'_>, wanted: usize) -> Result<(), Malformed>
+    ensures { GoesOn reader.old reader.new }
+{
+    let at = reader.pos;
+    reader.literal(b" ")?;
+    match reader.decimal(grids::CELLS as u64) {
+        Ok(length) if length == wanted as u64 => Ok(()),
+        Err(malformed) if wanted == 0 => Err(malformed),
+        _ => Err(Malformed { at }),
     }
 }
 
 // An accepted call's line. It has as many cells as `cells`, which takes their bits.
-fn accepted(text: &[u8], at: At, cells: &mut [u32]) -> Stored {
-    let takes = words::decimal(text, words::literal(text, at, b"accepted "), u64::MAX);
-    let told = Told::Accepted(takes.value);
-    let at = takes.at;
-    let len = words::decimal(text, words::literal(text, at, b" "), grids::CELLS as u64);
-    if len.value != cells.len() as u64 {
-        return Stored {
-            told,
-            at: words::malformed(at),
-        };
+fn accepted(reader: &mut Reader<'_>, cells: &mut [u32]) -> Result<Told, Malformed>
+    ensures { GoesOn reader.old reader.new }
+{
+    reader.literal(b"accepted ")?;
+    let takes = reader.decimal(u64::MAX)?;
+    length(reader, cells.len())?;
+    grids::read_cells(reader, cells)?;
+    reader.literal(b"\n")?;
+    Ok(Ok(takes))
+}
+
+// The index of a refusal, where there is one.
+fn index(reader: &mut Reader<'_>) -> Result<Option<u32>, Malformed>
+    ensures { GoesOn reader.old reader.new }
+{
+    if reader.peek() != Some(b' ') {
+        return Ok(None);
     }
-    let at = len.at;
-    let at = grids::patterns(text, at, cells);
-    Stored {
-        told,
-        at: words::literal(text, at, b"\n"),
-    }
+    reader.literal(b" index ")?;
+    Ok(Some(reader.decimal(u32::MAX as u64)? as u32))
 }
 
 // A refused call's line. `cells` takes the bits that such a call leaves in the answer.
-fn refused(text: &[u8], at: At, cells: &mut [u32]) -> Stored {
-    let number = words::decimal(text, words::literal(text, at, b"refused "), 7);
-    let at = number.at;
-    fill_cells(cells, left_in_answer(number.value));
-    if words::peek(text, at) == b' ' {
-        let index = words::decimal(text, words::literal(text, at, b" index "), 0xFFFF_FFFF);
-        let at = index.at;
-        return Stored {
-            told: Told::RefusedAt(number.value, index.value),
-            at: words::literal(text, at, b"\n"),
-        };
-    }
-    Stored {
-        told: Told::Refused(number.value),
-        at: words::literal(text, at, b"\n"),
-    }
+fn refused(reader: &mut Reader<'_>, cells: &mut [u32]) -> Result<Told, Malformed>
+    ensures { GoesOn reader.old reader.new }
+{
+    reader.literal(b"refused ")?;
+    let number = reader.decimal(OVER_BUDGET as u64)? as u8;
+    fill_cells(cells, left_in_answer(number));
+    let index = index(reader)?;
+    reader.literal(b"\n")?;
+    Ok(Err(Numbered { number, index }))
 }
 
 // The line of the stored answer. `cells`, the length of the answer, takes the bits that it must
 // hold after the call.
-pub fn stored_answer(text: &[u8], at: At, cells: &mut [u32]) -> Stored {
-    if words::peek(text, at) == b'a' {
-        return accepted(text, at, cells);
+pub fn stored_answer(reader: &mut Reader<'_>, cells: &mut [u32]) -> Result<Told, Malformed>
+    ensures { GoesOn reader.old reader.new }
+{
+    if reader.peek() == Some(b'a') {
+        accepted(reader, cells)
+    } else {
+        refused(reader, cells)
     }
-    refused(text, at, cells)
 }
 
-// Whether the call cleared its work buffers: it did where it ran, so also before refusal 7.
-pub fn cleared(told: Told) -> bool {
+// Whether the call cleared its work buffers: it did where it ran, so also before the last refusal.
+pub fn cleared(told: Told) -> bool
+    ensures { result ≡ clears told }
+{
     match told {
-        Told::Accepted(_) => true,
-        Told::Refused(_) => false,
-        Told::RefusedAt(number, _) => number == 7,
-    }
-}
-
-// Whether two answers are the same.
-pub fn same_told(a: Told, b: Told) -> bool {
-    match a {
-        Told::Accepted(takes) => same_takes(takes, b),
-        Told::Refused(number) => same_number(number, b),
-        Told::RefusedAt(number, index) => same_index(number, index, b),
-    }
-}
-
-// Whether an answer is that a call was accepted, with these takes.
-fn same_takes(takes: u64, b: Told) -> bool {
-    match b {
-        Told::Accepted(other) => takes == other,
-        Told::Refused(_) => false,
-        Told::RefusedAt(_, _) => false,
-    }
-}
-
-// Whether an answer is this refusal, with no index.
-fn same_number(number: u64, b: Told) -> bool {
-    match b {
-        Told::Accepted(_) => false,
-        Told::Refused(other) => number == other,
-        Told::RefusedAt(_, _) => false,
-    }
-}
-
-// Whether an answer is this refusal at this index.
-fn same_index(number: u64, index: u64, b: Told) -> bool {
-    match b {
-        Told::Accepted(_) => false,
-        Told::Refused(_) => false,
-        Told::RefusedAt(other, at) => number == other && index == at,
+        Ok(_) => true,
+        Err(refusal) => refusal.number == OVER_BUDGET,
     }
 }

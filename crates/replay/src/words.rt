@@ -1,171 +1,185 @@
 // The words of the text: what must stand at a place, and the numbers that stand there.
-ghost use Rattle.std.specs.Prelude.{◌+◌, ◌-◌, ◌≤◌, ◌<◌, ◌≡◌, true, false, negsuc};
+ghost use Rattle.std.specs.Prelude.{◌+◌, ◌-◌, ◌*◌, ◌≤◌, ◌<◌, ◌≡◌, ◌≢◌, length, take, drop, slice_get, negsuc, IfOk, IfErr, IfSome};
 ghost use Rattle.replay.specs.Words.{Stands, Spelled, hex_digit_ascii};
 
-// A place in the text: the index of a byte, and whether all that was read before it had the form.
-// Where a word has not, the place stays at that word, and nothing after it is read.
+use std::fmt;
+
+// A word that has not its form, by the index of the byte at which it begins.
+#[derive(Clone, Copy, Debug, PartialEq, Eq)]
+pub struct Malformed {
+    pub at: usize,
+}
+
+impl fmt::Display for Malformed {
+    fn fmt<W: fmt::Write>(&self, f: &mut fmt::Formatter<W>) -> fmt::Result {
+        write!(f, "malformed at byte {}", self.at)
+    }
+}
+
+// A text, and the index of its first byte that is not read yet. Before a word that is malformed it
+// stays.
 #[derive(Clone, Copy)]
-pub struct At {
+pub struct Reader<'a> {
+    pub text: &'a [u8],
     pub pos: usize,
-    pub ok: bool,
+    ghost within: { pos ≤ length text.now },
 }
 
-// A number that was read, and the place past it.
-#[derive(Clone, Copy)]
-pub struct Number {
-    pub value: u64,
-    pub at: At,
-}
+impl<'a> Reader<'a> {
+    ghost use Rattle.replay.specs.Reading.{GoesOn, StaysAt};
 
-// A float's bits that were read, and the place past them.
-#[derive(Clone, Copy)]
-pub struct Bits {
-    pub value: u32,
-    pub at: At,
-}
-
-// A signed number that was read, its cells along a side of a grid, none where it is negative, and
-// the place past it.
-#[derive(Clone, Copy)]
-pub struct Side {
-    pub value: i32,
-    pub cells: u64,
-    pub at: At,
-}
-
-// The same place, with the word there found malformed.
-pub fn malformed(at: At) -> At
-    ensures { result.ok ≡ false }
-{
-    At {
-        pos: at.pos,
-        ok: false,
+    // Of the whole text nothing is read.
+    pub fn new(text: &'a [u8]) -> Reader<'a>
+        ensures text { result.text.now ≡ text.now }
+        ensures start { result.pos ≡ 0 }
+    {
+        Reader { text, pos: 0 }
     }
-}
 
-// The byte at a place, or 0 at the text's end and past a malformed word.
-pub fn peek(text: &[u8], at: At) -> u8 {
-    let pos = at.pos;
-    if !at.ok {
-        return 0;
+    // The bytes that are not read yet.
+    fn rest(&self) -> &'a [u8]
+        ensures { result.now ≡ drop self.now.pos self.now.text.now }
+    {
+        &self.text[self.pos..]
     }
-    if pos < text.len() { text[pos] } else { 0 }
-}
 
-// The place past the bytes of `word`, which must stand at `at`.
-pub fn literal(text: &[u8], at: At, word: &[u8]) -> At
-    ensures { result.ok ≡ true → Stands word.now text.now at.pos result.pos }
-{
-    if !at.ok {
-        return at;
+    // The next byte, which stays to be read.
+    pub fn peek(&self) -> Option<u8>
+        ensures { result ≡ slice_get self.now.text.now self.now.pos }
+    {
+        self.text.get(self.pos).copied()
     }
-    let mut pos = at.pos;
-    let mut i = 0;
-    while i < word.len() {
-        if text.len() <= pos {
-            return malformed(at);
+
+    // Reads the bytes of `word`, which must come next.
+    pub fn literal(&mut self, word: &[u8]) -> Result<(), Malformed>
+        ensures goes_on { GoesOn self.old self.new }
+        ensures ok { IfOk result (λ _. Stands word.now self.old.text.now self.old.pos self.new.pos) }
+        ensures otherwise { IfErr result (λ _. take (length word.now) (drop self.old.pos self.old.text.now) ≢ word.now) }
+        ensures err { IfErr result (StaysAt self.old self.new) }
+    {
+        if !self.rest().starts_with(word) {
+            return Err(Malformed { at: self.pos });
         }
-        if text[pos] != word[i] {
-            return malformed(at);
-        }
-        pos += 1;
-        i += 1;
+        self.pos += word.len();
+        Ok(())
     }
-    At { pos, ok: true }
-}
 
-// The value of a digit, decimal or in lower case hex, and 16 for any other byte.
-fn digit(byte: u8) -> u64
-    ensures { result < 16 → hex_digit_ascii result ≡ byte }
-{
-    if byte < b'0' {
-        return 16;
-    }
-    if byte <= b'9' {
-        return (byte - b'0') as u64;
-    }
-    if byte < b'a' {
-        return 16;
-    }
-    if byte <= b'f' {
-        return (byte - b'a') as u64 + 10;
-    }
-    16
-}
-
-// The decimal number at a place: its digits up to the first byte that is none. It is malformed
-// where there is no digit, and where it is more than `most`.
-pub fn decimal(text: &[u8], at: At, most: u64) -> Number
-    ensures at_most { result.value ≤ most }
-    ensures spelled { result.at.ok ≡ true → (at.pos < result.at.pos) × Spelled 10 text.now at.pos result.at.pos result.value }
-{
-    if !at.ok {
-        return Number { value: 0, at };
-    }
-    let start = at.pos;
-    let mut pos = start;
-    let mut value: u64 = 0;
-    while pos < text.len() {
-        let d = digit(text[pos]);
-        if 9 < d {
-            break;
-        }
-        if most < d {
-            return Number {
-                value: 0,
-                at: malformed(at),
+    // Reads the decimal number that comes next: its digits up to the first byte that is none. It is
+    // malformed where there is no digit, and where it is more than `most`.
+    pub fn decimal(&mut self, most: u64) -> Result<u64, Malformed>
+        ensures goes_on { GoesOn self.old self.new }
+        ensures at_most { IfOk result (λ n. n ≤ most) }
+        ensures spelled { IfOk result (λ n. (self.old.pos < self.new.pos) × Spelled 10 self.old.text.now self.old.pos self.new.pos n) }
+        ensures err { IfErr result (StaysAt self.old self.new) }
+    {
+        let start = self.pos;
+        let mut pos = start;
+        let mut value: u64 = 0;
+        for byte in self.rest() {
+            let Some(digit) = digit(*byte, 10) else {
+                break;
             };
-        }
-        if (most - d) / 10 < value {
-            return Number {
-                value: 0,
-                at: malformed(at),
+            let Some(longer) = with_digit(value, digit, most) else {
+                return Err(Malformed { at: start });
             };
+            value = longer;
+            pos += 1;
         }
-        value = value * 10 + d;
-        pos += 1;
+        if pos == start {
+            return Err(Malformed { at: start });
+        }
+        self.pos = pos;
+        Ok(value)
     }
-    Number {
-        value,
-        at: At {
-            pos,
-            ok: start < pos,
-        },
+
+    // Reads the eight hex digits that come next.
+    pub fn hex(&mut self) -> Result<u32, Malformed>
+        ensures goes_on { GoesOn self.old self.new }
+        ensures spelled { IfOk result (λ n. (self.new.pos ≡ self.old.pos + 8) × Spelled 16 self.old.text.now self.old.pos self.new.pos n) }
+        ensures err { IfErr result (StaysAt self.old self.new) }
+    {
+        let malformed = Malformed { at: self.pos };
+        let Some(digits) = self.rest().first_chunk::<8>() else {
+            return Err(malformed);
+        };
+        let mut value: u32 = 0;
+        for byte in digits {
+            let Some(digit) = digit(*byte, 16) else {
+                return Err(malformed);
+            };
+            value = value * 16 + u32::from(digit);
+        }
+        self.pos += 8;
+        Ok(value)
+    }
+
+    // Reads the signed decimal number that comes next. Minus zero is malformed.
+    pub fn signed(&mut self) -> Result<i32, Malformed>
+        ensures goes_on { GoesOn self.old self.new }
+        ensures err { IfErr result (StaysAt self.old self.new) }
+    {
+        if self.peek() == Some(b'-') {
+            return self.negative();
+        }
+        let size = self.decimal(2_147_483_647)?;
+        Ok(size as i32)
+    }
+
+    // Reads the number with a minus sign that comes next, which is malformed from its sign on.
+    fn negative(&mut self) -> Result<i32, Malformed>
+        ensures goes_on { GoesOn self.old self.new }
+        ensures err { IfErr result (StaysAt self.old self.new) }
+    {
+        let mut digits = *self;
+        digits.literal(b"-")?;
+        match digits.decimal(2_147_483_648) {
+            Ok(size) if 0 < size => {
+                *self = digits;
+                Ok(below_zero(size))
+            }
+            _ => Err(Malformed { at: self.pos }),
+        }
+    }
+
+    // Reads past the lines that begin with #, which are comments.
+    pub fn past_comments(&mut self)
+        ensures { GoesOn self.old self.new }
+    {
+        while self.peek() == Some(b'#') {
+            self.past_line();
+        }
+    }
+
+    // Reads past the line that begins or goes on here.
+    fn past_line(&mut self)
+        ensures goes_on { GoesOn self.old self.new }
+        ensures further { self.old.pos < length self.old.text.now → self.old.pos < self.new.pos }
+    {
+        self.pos = match self.rest().iter().position(|byte| *byte == b'\n') {
+            Some(length) => self.pos + length + 1,
+            None => self.text.len(),
+        };
     }
 }
 
-// The eight hex digits at a place.
-pub fn hex(text: &[u8], at: At) -> Bits
-    ensures { result.at.ok ≡ true → (result.at.pos ≡ at.pos + 8) × Spelled 16 text.now at.pos result.at.pos result.value }
+// The value of a digit in a base of at most 16, decimal or in lower case hex.
+fn digit(byte: u8, base: u8) -> Option<u8>
+    ensures { IfSome result (λ d. (d < base) × (d < 16) × (hex_digit_ascii d ≡ byte)) }
 {
-    if !at.ok {
-        return Bits { value: 0, at };
-    }
-    let mut pos = at.pos;
-    let mut value: u64 = 0;
-    let mut i: usize = 0;
-    while i < 8 {
-        if text.len() <= pos {
-            return Bits {
-                value: 0,
-                at: malformed(at),
-            };
-        }
-        let d = digit(text[pos]);
-        if 15 < d {
-            return Bits {
-                value: 0,
-                at: malformed(at),
-            };
-        }
-        value = value * 16 + d;
-        pos += 1;
-        i += 1;
-    }
-    Bits {
-        value: value as u32,
-        at: At { pos, ok: true },
-    }
+    let value = match byte {
+        b'0'..=b'9' => byte - b'0',
+        b'a'..=b'f' => byte - b'a' + 10,
+        _ => return None,
+    };
+    if value < base { Some(value) } else { None }
+}
+
+// A decimal number with one digit more, where that is at most `most`.
+fn with_digit(value: u64, digit: u8, most: u64) -> Option<u64>
+    ensures { IfSome result (λ n. (n ≤ most) × (n ≡ value * 10 + digit)) }
+{
+    let longer = value.checked_mul(10)?.checked_add(u64::from(digit))?;
+    if longer <= most { Some(longer) } else { None }
 }
 
 // The negative number of a size.
@@ -174,70 +188,4 @@ fn below_zero(size: u64) -> i32
     ensures { result ≡ negsuc (size - 1) }
 {
     -1 - (size - 1) as i32
-}
-
-// The number with a minus sign at a place. Minus zero is malformed.
-fn negative(text: &[u8], at: At) -> Side {
-    let size = decimal(text, literal(text, at, b"-"), 2_147_483_648);
-    let cells = size.value;
-    let end = size.at;
-    if cells == 0 {
-        return Side {
-            value: 0,
-            cells: 0,
-            at: malformed(at),
-        };
-    }
-    Side {
-        value: below_zero(cells),
-        cells: 0,
-        at: end,
-    }
-}
-
-// The signed decimal number at a place.
-pub fn signed(text: &[u8], at: At) -> Side {
-    if peek(text, at) == b'-' {
-        return negative(text, at);
-    }
-    let size = decimal(text, at, 2_147_483_647);
-    let cells = size.value;
-    let end = size.at;
-    Side {
-        value: cells as i32,
-        cells,
-        at: end,
-    }
-}
-
-// The place past the line that starts at or goes on at a place.
-fn past_line(text: &[u8], from: usize) -> usize
-    ensures { from ≤ result }
-{
-    let mut pos = from;
-    while pos < text.len() {
-        if text[pos] == b'\n' {
-            return pos + 1;
-        }
-        pos += 1;
-    }
-    pos
-}
-
-// The place past the lines that begin with #, which are comments.
-pub fn past_comments(text: &[u8], from: usize) -> usize
-    ensures { from ≤ result }
-{
-    let mut pos = from;
-    while pos < text.len() {
-        if text[pos] != b'#' {
-            return pos;
-        }
-        let next = past_line(text, pos);
-        if next <= pos {
-            return pos;
-        }
-        pos = next;
-    }
-    pos
 }

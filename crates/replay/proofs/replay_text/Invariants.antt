@@ -1,9 +1,9 @@
-use Prim.Native.Nat.{◌≤◌, ◌-◌}
-use lib.ListN.{length}
+-- Each case leaves less to read.
+use Rattle.std.proofs.Common.{◌≤◌, ◌-◌, length}
 use Rattle.replay.proofs.replay_text.Given as goal
 
-abbrev pub invariant-loop-pos : goal.invariant-loop-pos
-invariant-loop-pos l = l.count ≤ l.pos
+abbrev pub invariant-loop-reader : goal.invariant-loop-reader
+invariant-loop-reader l = l.count ≤ l.reader.pos
 
-abbrev pub decreases-loop-pos : goal.decreases-loop-pos
-decreases-loop-pos l = length l.text - l.pos
+abbrev pub decreases-loop-reader : goal.decreases-loop-reader
+decreases-loop-reader l = length l.text - l.reader.pos
