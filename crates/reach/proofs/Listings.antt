@@ -3,7 +3,7 @@ use mathlib.Core.Bool.{Bool, false, not}
 use mathlib.Core.List.{List, [], ◌∷◌, ◌++◌}
 use mathlib.Core.Logic.{⊎_elim}
 use mathlib.Core.Path.{◌≡◌, refl, sym, ap, ◌∙◌, subst}
-use Prim.Native.Nat.{ℕ, ◌+◌, ◌<◌}
+use Prim.Native.Nat.{ℕ, ◌+◌, ◌≤◌, ◌<◌}
 use native.Mathlib.Numerals.{add-one}
 use borrow.Author.Tests.{ne_eqb}
 use lib.Dec.{eqb}
@@ -15,7 +15,7 @@ use Rattle.fifo.proofs.Lists.{after_set, in_snoc, among_other, among_last, joine
 use Rattle.fifo.proofs.Ranges.{room_for_new}
 use Rattle.rules.proofs.Tests.{opposite}
 use Rattle.reach.specs.Listing.{Met, Listing, Joining, Joined, Cells}
-use Rattle.reach.proofs.Reading.{in_list}
+use Rattle.reach.proofs.Reading.{in_list, take_few}
 
 -- ---- the marks
 
@@ -94,3 +94,7 @@ module _ {n : ℕ} {met listed : List ℕ} {count : ℕ} {cells : List ℕ} (lis
 -- The listed cells are cells of n.
 pub listing_cells : {n : ℕ} {met listed : List ℕ} {count : ℕ} {cells : List ℕ} → Listing n met listed count cells → Cells n (take count listed)
 listing_cells {listed = listed} {count = count} {cells = cells} lists = λ k d below. lists.inside (get_or (take count listed) k d) (subst (In (get_or (take count listed) k d)) lists.first (in_list (take count listed) k d below))
+
+-- There are entries for them.
+pub listing_few : {n : ℕ} {met listed : List ℕ} {count : ℕ} {cells : List ℕ} → Listing n met listed count cells → count ≤ length listed
+listing_few {listed = listed} {count = count} lists = take_few count listed (ap length lists.first ∙ lists.counted)
