@@ -101,17 +101,16 @@ module _ {values distances : List Float} {budget : Float} {met₀ : List ℕ} {s
 -- What `add_adjacent` asks, of the list of the cells that were reached.
 pub listing_beside :
     {size : Size} {values distances : List Float} {met listed : List ℕ} {entries : ℕ} {cells : List ℕ}
-    → Fitting size values distances met → Listing (count size) met listed entries cells → Beside size values distances listed entries met
+    → Fitting size values distances met → Listing (count size) met listed entries cells → Beside size values distances (take entries listed) met
 listing_beside fits lists = record { fits = fits; lists = listing_cells lists; marks = rw lists.first lists.marks }
 
 -- Once those beside each listed cell were tried, the adjacent cells of the rules are added.
 pub all_added :
-    {size : Size} {values distances : List Float} {listed : List ℕ} {entries : ℕ} {met met' : List ℕ} (budget sum : Float) {sum' : Float}
-    → Beside size values distances listed entries met
-    → Adjoins values distances budget (beside size (take entries listed)) met sum met' sum'
-    → AddedAdjacent size values distances budget sum (take entries listed) met' sum'
-all_added {size} {values} {distances} {listed} {entries} {met} {met'} budget sum {sum'} start tried =
-    let cells = take entries listed in
+    {size : Size} {values distances : List Float} {cells met met' : List ℕ} (budget sum : Float) {sum' : Float}
+    → Beside size values distances cells met
+    → Adjoins values distances budget (beside size cells) met sum met' sum'
+    → AddedAdjacent size values distances budget sum cells met' sum'
+all_added {size} {values} {distances} {cells} {met} {met'} budget sum {sum'} start tried =
     let begun : Adding (count size) values sum cells [] met sum = record { marks = rw (append-nil cells) start.marks; added = sym (added_none values sum) } in
     let done = tried.adds sum cells [] (rw start.fits.met_long begun) in
     record {

@@ -3,18 +3,19 @@ use mathlib.Core.Bool.{Bool, false, not}
 use mathlib.Core.List.{List, [], ◌∷◌, ◌++◌}
 use mathlib.Core.Logic.{⊎_elim}
 use mathlib.Core.Path.{◌≡◌, refl, sym, ap, ◌∙◌, subst}
-use Prim.Native.Nat.{ℕ, ◌+◌, ◌<◌}
+use Prim.Native.Nat.{ℕ, ◌+◌, ◌≤◌, ◌<◌}
 use native.Mathlib.Numerals.{add-one}
 use borrow.Author.Tests.{ne_eqb}
 use lib.Dec.{eqb}
 use lib.ListN.{length, get_or, take, set, replicate, length-set, length-append, length-replicate, get_or-replicate}
 use lib.Seq.{take-suc-set}
 use Rattle.fifo.specs.Machine.{among, joined}
+use Rattle.fifo.specs.Walk.{In}
 use Rattle.fifo.proofs.Lists.{after_set, in_snoc, among_other, among_last, joined_waiting, joined_new, no_dup_joined}
 use Rattle.fifo.proofs.Ranges.{room_for_new}
 use Rattle.rules.proofs.Tests.{opposite}
 use Rattle.reach.specs.Listing.{Met, Listing, Joining, Joined, Cells}
-use Rattle.reach.proofs.Reading.{in_take, take_few}
+use Rattle.reach.proofs.Reading.{in_list, take_few}
 
 -- ---- the marks
 
@@ -90,8 +91,10 @@ module _ {n : ℕ} {met listed : List ℕ} {count : ℕ} {cells : List ℕ} (lis
   pub listing_joined : {met' listed' : List ℕ} {count' : ℕ} → Joined cell met listed count met' listed' count' → Listing n met' listed' count' (joined cell cells)
   listing_joined joins = rw (lists.first, lists.marks.long) at joins.lists
 
--- The listed cells are cells of n, by their entries.
-pub listing_cells : {n : ℕ} {met listed : List ℕ} {count : ℕ} {cells : List ℕ} → Listing n met listed count cells → Cells n listed count
-listing_cells {listed = listed} {count = count} {cells = cells} lists =
-    let few = take_few count listed (ap length lists.first ∙ lists.counted) in
-    record { few = few; inside = λ k below. lists.inside (get_or listed k 0) (rw lists.first at (in_take listed count k below few)) }
+-- The listed cells are cells of n.
+pub listing_cells : {n : ℕ} {met listed : List ℕ} {count : ℕ} {cells : List ℕ} → Listing n met listed count cells → Cells n (take count listed)
+listing_cells {listed = listed} {count = count} {cells = cells} lists = λ k d below. lists.inside (get_or (take count listed) k d) (subst (In (get_or (take count listed) k d)) lists.first (in_list (take count listed) k d below))
+
+-- There are entries for them.
+pub listing_few : {n : ℕ} {met listed : List ℕ} {count : ℕ} {cells : List ℕ} → Listing n met listed count cells → count ≤ length listed
+listing_few {listed = listed} {count = count} lists = take_few count listed (ap length lists.first ∙ lists.counted)

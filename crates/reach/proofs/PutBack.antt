@@ -118,26 +118,26 @@ module _ (size : Size) (met₀ : List ℕ) where
 
 -- ---- the listed cells, and those beside them
 
-module _ {size : Size} {listed : List ℕ} {entries : ℕ} {met : List ℕ} (asked : Clearing size listed entries met) where
-  pub listed_met : Cells (length met) listed entries
-  listed_met = subst (λ n. Cells n listed entries) (sym asked.met_long) asked.lists
+module _ {size : Size} {listed met : List ℕ} (asked : Clearing size listed met) where
+  pub listed_met : Cells (length met) listed
+  listed_met = subst (λ n. Cells n listed) (sym asked.met_long) asked.lists
 
-  module _ {met₁ : List ℕ} (listed_back : met₁ ≡ put_back 0 met (take entries listed)) where
+  module _ {met₁ : List ℕ} (listed_back : met₁ ≡ put_back 0 met listed) where
     pub met_still_long : length met₁ ≡ length met
-    met_still_long = still_long 0 met (take entries listed) listed_back
+    met_still_long = still_long 0 met listed listed_back
 
-    pub still_clearing : Clearing size listed entries met₁
+    pub still_clearing : Clearing size listed met₁
     still_clearing = record { bounds = asked.bounds; met_long = met_still_long ∙ asked.met_long; lists = asked.lists }
 
     pub back_with :
-        {include_adjacent : Bool} → include_adjacent ≡ true → {met₂ : List ℕ} → met₂ ≡ put_back 0 met₁ (beside size (take entries listed))
-        → met₂ ≡ put_back 0 met (take entries listed ++ cond include_adjacent (beside size (take entries listed)) [])
-    back_with included beside_back = rw included (put_back_then 0 met met₁ (take entries listed) (beside size (take entries listed)) listed_back beside_back)
+        {include_adjacent : Bool} → include_adjacent ≡ true → {met₂ : List ℕ} → met₂ ≡ put_back 0 met₁ (beside size listed)
+        → met₂ ≡ put_back 0 met (listed ++ cond include_adjacent (beside size listed) [])
+    back_with included beside_back = rw included (put_back_then 0 met met₁ listed (beside size listed) listed_back beside_back)
 
     pub back_without :
         {include_adjacent : Bool} → include_adjacent ≡ false
-        → met₁ ≡ put_back 0 met (take entries listed ++ cond include_adjacent (beside size (take entries listed)) [])
-    back_without not_included = rw (not_included, append-nil (take entries listed)) listed_back
+        → met₁ ≡ put_back 0 met (listed ++ cond include_adjacent (beside size listed) [])
+    back_without not_included = rw (not_included, append-nil listed) listed_back
 
 -- Once they are put back no cell is met. Proof: a cell that is met is listed, or was added beside a listed one.
 pub none_met :

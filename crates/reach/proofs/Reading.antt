@@ -1,4 +1,4 @@
--- The first entries of a slice: what stands among them, and how many there are. Assumes nothing.
+-- What stands in a list, and how long a part of one is. Assumes nothing.
 use mathlib.Core.List.{List, [], ◌∷◌}
 use mathlib.Core.Logic.{inl, inr}
 use mathlib.Core.Path.{◌≡◌, refl}
@@ -8,12 +8,11 @@ use native.Mathlib.Omega.{arith}
 use lib.ListN.{length, get_or, take}
 use Rattle.fifo.specs.Walk.{In}
 
--- An entry before the end of a part stands in it.
-pub in_take : (l : List ℕ) (n k : ℕ) → k < n → n ≤ length l → In (get_or l k 0) (take n l)
-in_take l zero k less few = absurd (not-suc-le-zero less)
-in_take [] (suc n) k less few = absurd (not-suc-le-zero few)
-in_take (a ∷ l) (suc n) zero less few = inl refl
-in_take (a ∷ l) (suc n) (suc k) less few = inr (in_take l n k (le_of_suc-le-suc less) (le_of_suc-le-suc few))
+-- An entry before the end.
+pub in_list : (l : List ℕ) (k d : ℕ) → k < length l → In (get_or l k d) l
+in_list [] k d less = absurd (not-suc-le-zero less)
+in_list (a ∷ l) zero d less = inl refl
+in_list (a ∷ l) (suc k) d less = inr (in_list l k d (le_of_suc-le-suc less))
 
 -- A part that has as many entries as it was to have is no longer than the whole.
 pub take_few : {A : Type 0} (n : ℕ) (l : List A) → length (take n l) ≡ n → n ≤ length l

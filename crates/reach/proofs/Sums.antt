@@ -17,11 +17,12 @@ module _ (values : List Float) (sum : Float) (c : ℕ) {answer : Bool} (says : a
   pub value_added : answer ≡ false → add binary32 sum (get_or values c nan) ≡ add_value values sum c
   value_added e = rw (sym says ∙ e)
 
--- No cell, and one cell more.
+-- No cell.
 pub added_none : (values : List Float) (sum : Float) → add_values values sum [] ≡ sum
 unfolding add_values
 added_none values sum = refl
 
+-- One cell more.
 pub added_more : (values : List Float) (sum : Float) (l : List ℕ) (c : ℕ) → add_values values sum (l ++ c ∷ []) ≡ add_value values (add_values values sum l) c
 unfolding add_values
 added_more values sum l c = foldl-append (add_value values) sum l (c ∷ [])

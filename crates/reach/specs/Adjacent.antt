@@ -1,6 +1,6 @@
 -- What the functions for the cells beside the listed ones are asked and promise. Definitions only.
 use mathlib.Core.List.{List, [], ◌∷◌, ◌++◌, foldl}
-use Rattle.std.specs.Prelude.{◌≡◌, ℕ, ◌<◌, T, Float, length, take}
+use Rattle.std.specs.Prelude.{◌≡◌, ℕ, ◌<◌, T, Float, length}
 use Rattle.fifo.specs.Walk.{In}
 use Rattle.rules.specs.declared.Size.{Size}
 use Rattle.rules.specs.Sizes.{in_bounds, count}
@@ -44,10 +44,10 @@ pub record Around (size : Size) (values distances : List Float) (met : List ℕ)
   pub inside : u < count size
 
 -- The cells beside the listed ones are to be added: those that are listed are met, and no other.
-pub record Beside (size : Size) (values distances : List Float) (listed : List ℕ) (entries : ℕ) (met : List ℕ) : Type 0 where
+pub record Beside (size : Size) (values distances : List Float) (listed met : List ℕ) : Type 0 where
   pub fits : Fitting size values distances met
-  pub lists : Cells (count size) listed entries
-  pub marks : Met (count size) met (take entries listed)
+  pub lists : Cells (count size) listed
+  pub marks : Met (count size) met listed
 
 -- They are added, and met.
 pub record AddedAdjacent (size : Size) (values distances : List Float) (budget sum : Float) (cells met' : List ℕ) (sum' : Float) : Type 0 where

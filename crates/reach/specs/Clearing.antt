@@ -16,7 +16,7 @@ pub record ClearingAround (size : Size) (u : ℕ) (met : List ℕ) : Type 0 wher
   pub inside : u < count size
 
 -- The listed cells are to be put back, and those beside them.
-pub record Clearing (size : Size) (listed : List ℕ) (entries : ℕ) (met : List ℕ) : Type 0 where
+pub record Clearing (size : Size) (listed met : List ℕ) : Type 0 where
   pub bounds : T (in_bounds size)
   pub met_long : length met ≡ count size
-  pub lists : Cells (count size) listed entries
+  pub lists : Cells (count size) listed

@@ -1,5 +1,5 @@
 -- The list of the cells that were reached. Definitions only.
-use Rattle.std.specs.Prelude.{not, List, ◌≡◌, ℕ, ◌≤◌, ◌<◌, eqb, length, get_or, take}
+use Rattle.std.specs.Prelude.{not, List, ◌≡◌, ℕ, ◌<◌, eqb, length, get_or, take, All}
 use Rattle.fifo.specs.Machine.{among, joined}
 use Rattle.fifo.specs.Walk.{In, NoDup}
 
@@ -26,7 +26,6 @@ pub record Joining (cell : ℕ) (met listed : List ℕ) (count : ℕ) : Type 0 w
 pub record Joined (cell : ℕ) (met listed : List ℕ) (count : ℕ) (met' listed' : List ℕ) (count' : ℕ) : Type 0 where
   pub lists : Listing (length met) met' listed' count' (joined cell (take count listed))
 
--- The first `count` entries are cells of n.
-pub record Cells (n : ℕ) (listed : List ℕ) (count : ℕ) : Type 0 where
-  pub few : count ≤ length listed
-  pub inside : (k : ℕ) → k < count → get_or listed k 0 < n
+-- Those of a list are cells of n.
+abbrev pub Cells : ℕ → List ℕ → Type 0
+Cells n cells = All (λ c. c < n) cells

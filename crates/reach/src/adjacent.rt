@@ -1,5 +1,5 @@
 // The cells beside the listed ones, whose distance is above the budget: each is added once.
-ghost use Rattle.std.specs.Prelude.{[], ◌∷◌, take};
+ghost use Rattle.std.specs.Prelude.{[], ◌∷◌};
 ghost use Rattle.rules.specs.Cells.{neighbours};
 ghost use Rattle.rules.specs.Sums.{adjacent_offsets};
 ghost use Rattle.reach.specs.Adjacent.{Adjoins, Trying, Around, Beside, AddedAdjacent};
@@ -69,17 +69,16 @@ pub fn add_adjacent(
     values: &[f32],
     distances: &[f32],
     listed: &[u32],
-    count: usize,
     budget: f32,
     sum: f32,
     met: &mut [u32],
 ) -> f32
-    requires { Beside size values.now distances.now listed.now count met.old }
-    ensures { AddedAdjacent size values.now distances.now budget sum (take count listed.now) met.new result }
+    requires { Beside size values.now distances.now listed.now met.old }
+    ensures { AddedAdjacent size values.now distances.now budget sum listed.now met.new result }
 {
     let mut total = sum;
-    for k in 0..count {
-        total = add_around(size, listed[k], values, distances, budget, total, met);
+    for cell in listed {
+        total = add_around(size, *cell, values, distances, budget, total, met);
     }
     total
 }

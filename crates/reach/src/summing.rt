@@ -1,5 +1,5 @@
 // The sum of the listed cells' values, and whether a distance of theirs is above the budget.
-ghost use Rattle.std.specs.Prelude.{◌≡◌, ◌<◌, length, take};
+ghost use Rattle.std.specs.Prelude.{◌≡◌, ◌<◌, length};
 ghost use Rattle.binary32.specs.Numbers.{plus_zero};
 ghost use Rattle.rules.specs.Sizes.{any};
 ghost use Rattle.rules.specs.Sums.{add_value, add_values, above_budget};
@@ -21,13 +21,13 @@ pub fn add_value(values: &[f32], cell: u32, sum: f32) -> f32
 }
 
 // Adds the listed cells' values from +0.0, in list order.
-pub fn add_listed(values: &[f32], listed: &[u32], count: usize) -> f32
-    requires { Cells (length values.now) listed.now count }
-    ensures { result ≡ add_values values.now plus_zero (take count listed.now) }
+pub fn add_listed(values: &[f32], listed: &[u32]) -> f32
+    requires { Cells (length values.now) listed.now }
+    ensures { result ≡ add_values values.now plus_zero listed.now }
 {
     let mut sum: f32 = 0.0;
-    for k in 0..count {
-        sum = add_value(values, listed[k], sum);
+    for cell in listed {
+        sum = add_value(values, *cell, sum);
     }
     sum
 }
@@ -42,12 +42,12 @@ pub fn is_above(distances: &[f32], cell: u32, budget: f32) -> bool
 }
 
 // Whether a listed cell's distance is above the budget.
-pub fn is_over_budget(distances: &[f32], listed: &[u32], count: usize, budget: f32) -> bool
-    requires { Cells (length distances.now) listed.now count }
-    ensures { result ≡ any (above_budget distances.now budget) (take count listed.now) }
+pub fn is_over_budget(distances: &[f32], listed: &[u32], budget: f32) -> bool
+    requires { Cells (length distances.now) listed.now }
+    ensures { result ≡ any (above_budget distances.now budget) listed.now }
 {
-    for k in 0..count {
-        if is_above(distances, listed[k], budget) {
+    for cell in listed {
+        if is_above(distances, *cell, budget) {
             return true;
         }
     }

@@ -2,9 +2,10 @@
 use mathlib.Core.Bool.{Bool, true, false, cond}
 use mathlib.Core.List.{List, [], ◌++◌, append-nil}
 use mathlib.Core.Path.{◌≡◌, refl, sym, ap, ◌∙◌, subst}
-use Prim.Native.Nat.{ℕ, suc, ◌*◌, ◌<◌}
+use Prim.Native.Nat.{ℕ, suc, ◌*◌, ◌≤◌, ◌<◌}
 use lib.Ieee.{Float, nan}
 use lib.ListN.{length, get_or, replicate, take, length-replicate}
+use Rattle.std.specs.Prelude.{Ok, Err}
 use Rattle.binary32.specs.Numbers.{plus_zero}
 use Rattle.fifo.specs.Machine.{joined, finish}
 use Rattle.fifo.specs.Walk.{In}
@@ -12,7 +13,7 @@ use Rattle.fifo.proofs.Entries.{entered_as_taken}
 use Rattle.rules.specs.declared.Size.{Size}
 use Rattle.rules.specs.Numbers.{infinity}
 use Rattle.rules.specs.Sizes.{Grid, grid, any, count}
-use Rattle.rules.specs.Sums.{from_mask_cell, listed, add_values, above_budget, adjacent_cells, sum_listed, sum_of}
+use Rattle.rules.specs.Sums.{from_mask_cell, listed, add_values, above_budget, adjacent_cells, sum_listed, sum_of, over_budget}
 use Rattle.rules.proofs.Listed.{listed_with_start, unlisted_unreached}
 use Rattle.cells.specs.declared.ring.Ring.{Ring}
 use Rattle.spread.specs.declared.search.Rule.TheVariants.{FromMaskCell}
@@ -29,13 +30,14 @@ use Rattle.spread.proofs.Agrees.{mask_cell_agrees}
 use Rattle.reach.specs.Listing.{Met, Listing, Joining, Joined, Cells}
 use Rattle.reach.specs.Adjacent.{beside, Beside, AddedAdjacent}
 use Rattle.reach.specs.Clearing.{put_back, Clearing}
-use Rattle.reach.proofs.Listings.{listing_none, joining, listing_joined, listing_cells}
+use Rattle.reach.proofs.Listings.{listing_none, joining, listing_joined, listing_few, listing_cells}
 use Rattle.reach.proofs.Around.{listing_beside}
 use Rattle.reach.proofs.PutBack.{all_back, none_met}
 use Rattle.sums.specs.declared.listing.Reached.{Reached}
 use Rattle.sums.specs.Between.{BetweenStarts}
 use Rattle.sums.specs.Listed.{each_once, Lists, ListedAll}
-use Rattle.sums.specs.FromMask.{Lengths, Reaching, run_from, ReachedFrom, SumReached, Summing, SummedFrom}
+use Rattle.sums.specs.declared.mask_cell.MaskSum.{MaskSum}
+use Rattle.sums.specs.FromMask.{Lengths, Reaching, run_from, over_at, ReachedFrom, SumReached, Summing, SummedFrom}
 use Rattle.sums.proofs.Endings.{EndsAs, spreads_by_times, spreads_begin, ends_as}
 
 -- ---- between two starts
@@ -133,6 +135,9 @@ module _ (size : Size) (times : List Float) (start : ℕ) (limit : Float) where
 
 -- ---- the sum
 
+abbrev pub mask_sum_of : ℕ → Float → MaskSum
+mask_sum_of takes sum = record { takes = takes; sum = sum }
+
 module _ {size : Size} {values distances : List Float} {cells : List ℕ} {limit : Float} {alone : Float} where
   pub sum_without : alone ≡ add_values values plus_zero cells → {met : List ℕ} {include_adjacent : Bool} → include_adjacent ≡ false → Met (count size) met cells → SumReached size values distances cells limit include_adjacent met alone
   unfolding sum_listed
@@ -150,8 +155,8 @@ module _ {size : Size} {values distances : List Float} {cells : List ℕ} {limit
         ∙ sym (ap (λ b. sum_listed size values distances limit b cells) is);
   }
 
-pub beside_cells : {size : Size} {values distances : List Float} {listed : List ℕ} {entries : ℕ} {met : List ℕ} → Beside size values distances listed entries met → Cells (length values) listed entries
-beside_cells {listed = listed} {entries = entries} beside = subst (λ n. Cells n listed entries) (sym beside.fits.values_long) beside.lists
+pub beside_cells : {size : Size} {values distances : List Float} {listed met : List ℕ} → Beside size values distances listed met → Cells (length values) listed
+beside_cells {listed = listed} beside = subst (λ n. Cells n listed) (sym beside.fits.values_long) beside.lists
 
 module _
     {size : Size} {times values : List Float} {start : ℕ} {distances : List Float} {marks listed₀ met queue : List ℕ}
@@ -159,10 +164,13 @@ module _
     {distances₁ : List Float} {marks₁ listed₁ met₁ queue₁ : List ℕ} {r : Reached}
     (reached : ReachedFrom size times start distances₁ marks₁ listed₁ met₁ queue₁ r)
   where
-    pub reached_cells : Cells (length distances₁) listed₁ r.count
-    reached_cells = subst (λ n. Cells n listed₁ r.count) (sym reached.lengths.distances_length) (listing_cells reached.lists)
+    pub reached_few : r.count ≤ length listed₁
+    reached_few = listing_few reached.lists
 
-    pub reached_beside : Beside size values distances₁ listed₁ r.count met₁
+    pub reached_cells : Cells (length distances₁) (take r.count listed₁)
+    reached_cells = subst (λ n. Cells n (take r.count listed₁)) (sym reached.lengths.distances_length) (listing_cells reached.lists)
+
+    pub reached_beside : Beside size values distances₁ (take r.count listed₁) met₁
     reached_beside =
         listing_beside (record {
           bounds = asked.reaching.ways.bounds;
@@ -171,7 +179,7 @@ module _
           met_long = reached.lengths.met_length;
         }) reached.lists
 
-    pub reached_clearing : {met₂ : List ℕ} → length met₂ ≡ count size → Clearing size listed₁ r.count met₂
+    pub reached_clearing : {met₂ : List ℕ} → length met₂ ≡ count size → Clearing size (take r.count listed₁) met₂
     reached_clearing long = record { bounds = asked.reaching.ways.bounds; met_long = long; lists = listing_cells reached.lists }
 
     -- Every distance is infinity again: a cell that is not listed was not reached.
@@ -191,9 +199,9 @@ module _
         → SumReached size values distances₁ (take r.count listed₁) limit include_adjacent met₂ sum
         → cap ≡ infinity → distances₂ ≡ put_back cap distances₁ (take r.count listed₁)
         → met₃ ≡ put_back 0 met₂ (take r.count listed₁ ++ cond include_adjacent (beside size (take r.count listed₁)) [])
-        → SummedFrom size times values limit include_adjacent start distances₂ marks₁ listed₁ met₃ queue₁ (record { takes = r.takes; over = over; sum = sum })
+        → SummedFrom size times values limit include_adjacent start distances₂ marks₁ listed₁ met₃ queue₁ (cond over (Err (over_at start)) (Ok (record { takes = r.takes; sum = sum })))
     unfolding sum_of
-    summed_from {limit} {include_adjacent} over_is summed capped distances_back met_back =
+    summed_from {limit} {include_adjacent} {sum = sum} over_is summed capped distances_back met_back =
         let run = run_from size times start in
         let cells : take r.count listed₁ ≡ listed (grid size times) run = reached.lists.first in
         let labels = reached.labels in
@@ -204,10 +212,12 @@ module _
             listed_length = reached.lengths.listed_length;
             queue_length = reached.lengths.queue_length;
           };
-          counted = reached.counted;
-          over_is = over_is ∙ ap (λ l. any (above_budget distances₁ limit) l) cells ∙ ap (λ d. any (above_budget d limit) (listed (grid size times) run)) labels;
-          sum_is =
+          says =
+              let over_same = over_is ∙ ap (λ l. any (above_budget distances₁ limit) l) cells ∙ ap (λ d. any (above_budget d limit) (listed (grid size times) run)) labels in
+              let sum_same =
               summed.sum_is
               ∙ ap (sum_listed size values distances₁ limit include_adjacent) cells
-              ∙ ap (λ d. sum_listed size values d limit include_adjacent (listed (grid size times) run)) labels;
+              ∙ ap (λ d. sum_listed size values d limit include_adjacent (listed (grid size times) run)) labels in
+              ap (λ b. cond b (Err (over_at start)) (Ok (record { takes = r.takes; sum = sum }))) over_same
+              ∙ ap (λ m. cond (over_budget (grid size times) limit run).0 (Err (over_at start)) (Ok m)) (ap (λ t. mask_sum_of t sum) reached.counted ∙ ap (mask_sum_of run.takes) sum_same);
         }

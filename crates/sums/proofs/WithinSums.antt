@@ -7,6 +7,7 @@ use lib.Dec.{T}
 use lib.Ieee.{Float, nan, binary32, fits}
 use lib.ListN.{length, get_or, replicate, length-replicate}
 use Rattle.binary32.specs.Numbers.{plus_zero}
+use Rattle.std.specs.Prelude.{Result, Ok, Err}
 use Rattle.fifo.proofs.Ends.{laws_within}
 use Rattle.rules.specs.declared.Size.{Size}
 use Rattle.rules.specs.Sizes.{grid, Judged, Lent, Outcome, passes, unless}
@@ -18,43 +19,42 @@ use Rattle.calls.specs.declared.answer.Answer.TheVariants.{Accepted, Refused}
 use Rattle.calls.specs.declared.answer.Judged.{Judged as CodeJudged}
 use Rattle.calls.specs.declared.answer.Judged.TheVariants.{Stops}
 use Rattle.calls.specs.declared.answer.Refusal.{Refusal}
-use Rattle.calls.specs.declared.answer.Refusal.TheVariants.{OverBudget}
+use Rattle.calls.specs.declared.answer.Refusal.TheVariants.{OverBudget as RefusedOver}
 use Rattle.calls.specs.Answer.{judged_as, tell, answer_after, buffer_after}
 use Rattle.calls.specs.Given.{lent}
 use Rattle.calls.specs.Promise.{slice}
 use Rattle.calls.proofs.Shapes.{shaped}
 use Rattle.calls.proofs.Untouched.{judged_writes, buffer_untouched}
 use Rattle.calls.proofs.Promises.{promised_refused, still_zero}
-use Rattle.sums.specs.declared.mask.Found.{Found}
-use Rattle.sums.specs.declared.mask.Found.TheVariants.{All, Over}
+use Rattle.sums.specs.declared.mask_cell.OverBudget.{OverBudget}
 use Rattle.sums.specs.Mask.{Given, SearchingMask, found_as, mask_outcome, SearchedMask, LeftAnswer}
 use Rattle.sums.specs.Promise.{PromisedSums}
 
 -- ---- the answer that is left
 
-module _ {found : Found} {answer answer' : List Float} where
-  pub left_all : {takes : ℕ} → found ≡ All takes → answer' ≡ answer → LeftAnswer found answer answer' (Accepted (record { takes = takes }))
+module _ {found : Result ℕ OverBudget} {answer answer' : List Float} where
+  pub left_all : {takes : ℕ} → found ≡ Ok takes → answer' ≡ answer → LeftAnswer found answer answer' (Accepted (record { takes = takes }))
   left_all is settled = record {
     same_length = ap length settled;
-    says = sym (ap (λ (f : Found). tell (found_as f answer)) is);
-    answer_left = settled ∙ sym (ap (λ (f : Found). answer_after (found_as f answer) answer) is);
+    says = sym (ap (λ (f : Result ℕ OverBudget). tell (found_as f answer)) is);
+    answer_left = settled ∙ sym (ap (λ (f : Result ℕ OverBudget). answer_after (found_as f answer) answer) is);
   }
 
-  pub left_over : {cell : ℕ} → found ≡ Over cell → answer' ≡ replicate (length answer) nan → LeftAnswer found answer answer' (Refused (OverBudget cell))
+  pub left_over : {over : OverBudget} → found ≡ Err over → answer' ≡ replicate (length answer) nan → LeftAnswer found answer answer' (Refused (RefusedOver over.cell))
   left_over is filled = record {
     same_length = ap length filled ∙ length-replicate (length answer) nan;
-    says = sym (ap (λ (f : Found). tell (found_as f answer)) is);
-    answer_left = filled ∙ sym (ap (λ (f : Found). answer_after (found_as f answer) answer) is);
+    says = sym (ap (λ (f : Result ℕ OverBudget). tell (found_as f answer)) is);
+    answer_left = filled ∙ sym (ap (λ (f : Result ℕ OverBudget). answer_after (found_as f answer) answer) is);
   }
 
 -- What is left does not turn on what the answer held, only on its length; and a work buffer is zero in either case.
-left_alike : (found : Found) (answer before : List Float) → length answer ≡ length before → answer_after (found_as found answer) answer ≡ answer_after (found_as found answer) before
-left_alike (All takes) answer before long = refl
-left_alike (Over cell) answer before long = ap (λ n. replicate n nan) long
+left_alike : (found : Result ℕ OverBudget) (answer before : List Float) → length answer ≡ length before → answer_after (found_as found answer) answer ≡ answer_after (found_as found answer) before
+left_alike (Ok takes) answer before long = refl
+left_alike (Err over) answer before long = ap (λ n. replicate n nan) long
 
-found_zeroes : {A : Type 0} (zero : A) (found : Found) (answer : List Float) (before : List A) → replicate (length before) zero ≡ buffer_after zero (found_as found answer) before
-found_zeroes zero (All takes) answer before = refl
-found_zeroes zero (Over cell) answer before = refl
+found_zeroes : {A : Type 0} (zero : A) (found : Result ℕ OverBudget) (answer : List Float) (before : List A) → replicate (length before) zero ≡ buffer_after zero (found_as found answer) before
+found_zeroes zero (Ok takes) answer before = refl
+found_zeroes zero (Err over) answer before = refl
 
 -- ---- before the search
 
@@ -78,7 +78,7 @@ mask_searching {answer = answer} given zeroed = record {
 
 pub mask_promised :
     {size : Size} {mask : List ℕ} {times values : List Float} {limit : Float} {include_adjacent : Bool} {answer distances : List Float} {marks listed met queue : List ℕ}
-    {answer₁ distances₁ answer₂ distances₂ : List Float} {marks₁ listed₁ met₁ queue₁ marks₂ listed₂ met₂ queue₂ : List ℕ} {found : Found} {r : Answer}
+    {answer₁ distances₁ answer₂ distances₂ : List Float} {marks₁ listed₁ met₁ queue₁ marks₂ listed₂ met₂ queue₂ : List ℕ} {found : Result ℕ OverBudget} {r : Answer}
     → Given size mask times values answer distances marks listed met queue
     → SearchedMask size mask times values limit include_adjacent answer₁ distances₁ marks₁ listed₁ met₁ queue₁ found
     → distances₂ ≡ replicate (length distances₁) plus_zero → marks₂ ≡ replicate (length marks₁) 0 → listed₂ ≡ replicate (length listed₁) 0

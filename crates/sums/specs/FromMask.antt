@@ -1,5 +1,5 @@
 -- The search from one mask cell: what it asks and promises. Definitions only.
-use Rattle.std.specs.Prelude.{Bool, cond, List, [], ◌++◌, ◌≡◌, ℕ, suc, ◌<◌, Float, length}
+use Rattle.std.specs.Prelude.{Bool, cond, List, [], ◌++◌, ◌≡◌, ℕ, suc, ◌<◌, Float, length, Result, Ok, Err}
 use Rattle.rules.specs.declared.Size.{Size}
 use Rattle.rules.specs.Numbers.{infinity}
 use Rattle.rules.specs.Sizes.{grid, count}
@@ -8,6 +8,7 @@ use Rattle.spread.specs.Waiting.{Unmarked}
 use Rattle.reach.specs.Listing.{Met, Listing}
 use Rattle.sums.specs.declared.listing.Reached.{Reached}
 use Rattle.sums.specs.declared.mask_cell.MaskSum.{MaskSum}
+use Rattle.sums.specs.declared.mask_cell.OverBudget.{OverBudget}
 use Rattle.sums.specs.Ways.{Ways}
 use Rattle.sums.specs.Between.{BetweenStarts}
 
@@ -47,11 +48,17 @@ pub record Summing (size : Size) (times values : List Float) (start : ℕ) (dist
   pub reaching : Reaching size times start distances marks listed met queue
   pub values_length : length values ≡ count size
 
--- The takes, whether refusal 7 applies, and the sum are those of the rules' run, and the next can start.
+-- Refusal 7 applies to the mask cell.
+abbrev pub over_at : ℕ → OverBudget
+over_at cell = record { cell = cell }
+
+-- Refusal 7 applies, or the takes and the sum are those of the rules' run. In either case the next can start.
 pub record SummedFrom
-    (size : Size) (times values : List Float) (limit : Float) (include_adjacent : Bool) (start : ℕ) (distances' : List Float) (marks' listed' met' queue' : List ℕ) (r : MaskSum)
+    (size : Size) (times values : List Float) (limit : Float) (include_adjacent : Bool) (start : ℕ) (distances' : List Float) (marks' listed' met' queue' : List ℕ) (r : Result MaskSum OverBudget)
     : Type 0 where
   pub between : BetweenStarts size infinity distances' marks' listed' met' queue'
-  pub counted : r.takes ≡ (run_from size times start).takes
-  pub over_is : r.over ≡ (over_budget (grid size times) limit (run_from size times start)).0
-  pub sum_is : r.sum ≡ sum_of (grid size times) (grid size values) limit include_adjacent (run_from size times start)
+  pub says :
+      let run = run_from size times start in
+      r
+      ≡ cond (over_budget (grid size times) limit run).0 (Err (over_at start))
+      (Ok (record { takes = run.takes; sum = sum_of (grid size times) (grid size values) limit include_adjacent run }))

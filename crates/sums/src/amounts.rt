@@ -116,13 +116,11 @@ pub fn search_amounts(
 {
     let end = cell_count(size) as u32;
     let mut total: u64 = 0;
-    let mut cell: u32 = 0;
-    while cell < end {
+    for cell in 0..end {
         let takes = search_cell(
             size, times, amounts, limit, cell, answer, distances, marks, added, queue,
         );
         total += takes;
-        cell += 1;
     }
     total
 }

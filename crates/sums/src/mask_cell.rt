@@ -1,5 +1,4 @@
 // The search from one mask cell, and the sum of what it reached.
-ghost use Rattle.std.specs.Prelude.{take};
 ghost use Rattle.reach.specs.Adjacent.{Beside};
 ghost use Rattle.sums.specs.FromMask.{Reaching, ReachedFrom, SumReached, Summing, SummedFrom};
 
@@ -58,31 +57,35 @@ fn sum_reached(
     values: &[f32],
     distances: &[f32],
     listed: &[u32],
-    count: usize,
     limit: f32,
     include_adjacent: bool,
     met: &mut [u32],
 ) -> f32
-    requires { Beside size values.now distances.now listed.now count met.old }
-    ensures { SumReached size values.now distances.now (take count listed.now) limit include_adjacent met.new result }
+    requires { Beside size values.now distances.now listed.now met.old }
+    ensures { SumReached size values.now distances.now listed.now limit include_adjacent met.new result }
 {
-    let sum = add_listed(values, listed, count);
+    let sum = add_listed(values, listed);
     if include_adjacent {
-        return add_adjacent(size, values, distances, listed, count, limit, sum, met);
+        return add_adjacent(size, values, distances, listed, limit, sum, met);
     }
     sum
 }
 
-// What the search from a mask cell comes to: its takes, whether it reached a cell over the budget, and the sum.
+// What the search from a mask cell comes to: its takes, and the sum of what it reached.
 #[derive(Clone, Copy)]
 pub struct MaskSum {
     pub takes: u64,
-    pub over: bool,
     pub sum: f32,
 }
 
-// Searches from one mask cell, without a bound, and adds up what it reached. What it left is put back, so that the next
-// can start.
+// The search from this mask cell reached a cell over the budget.
+#[derive(Clone, Copy, PartialEq, Eq)]
+pub struct OverBudget {
+    pub cell: u32,
+}
+
+// Searches from one mask cell, without a bound, and adds up what it reached. What it left is put back in either case, so
+// that the next can start.
 pub fn sum_from(
     size: Size,
     times: &[f32],
@@ -95,29 +98,22 @@ pub fn sum_from(
     listed: &mut [u32],
     met: &mut [u32],
     queue: &mut [u32],
-) -> MaskSum
+) -> Result<MaskSum, OverBudget>
     requires { Summing size times.now values.now start distances.old marks.old listed.old met.old queue.old }
     ensures { SummedFrom size times.now values.now limit include_adjacent start
         distances.new marks.new listed.new met.new queue.new result }
 {
     let reached = reach_from(size, times, start, distances, marks, listed, met, queue);
-    let count = reached.count;
-    let over = is_over_budget(distances, listed, count, limit);
-    let sum = sum_reached(
-        size,
-        values,
-        distances,
-        listed,
-        count,
-        limit,
-        include_adjacent,
-        met,
-    );
-    clear_distances(listed, count, infinity(), distances);
-    clear_met(size, listed, count, include_adjacent, met);
-    MaskSum {
-        takes: reached.takes,
-        over,
-        sum,
+    let cells = &listed[..reached.count];
+    let over = is_over_budget(distances, cells, limit);
+    let sum = sum_reached(size, values, distances, cells, limit, include_adjacent, met);
+    clear_distances(cells, infinity(), distances);
+    clear_met(size, cells, include_adjacent, met);
+    if over {
+        return Err(OverBudget { cell: start });
     }
+    Ok(MaskSum {
+        takes: reached.takes,
+        sum,
+    })
 }

@@ -3,24 +3,25 @@ ghost use Rattle.calls.specs.Promise.{slice};
 ghost use Rattle.sums.specs.Mask.{Given, LeftAnswer, mask_outcome};
 ghost use Rattle.sums.specs.Promise.{PromisedSums, SumWithinTravelDistance};
 
-use crate::mask::{Found, search_mask};
+use crate::mask::search_mask;
+use crate::mask_cell::OverBudget;
 use calls::{
     Answer, Counts, Judged, Refusal, fill_bytes, fill_cells, fill_floats, fill_nan, judge_7, settle,
 };
 use rules::Size;
 
 // Leaves the answer as the searches found it, or all NaN where one was over the budget.
-fn leave_answer(found: Found, answer: &mut [f32]) -> Answer
+fn leave_answer(found: Result<u64, OverBudget>, answer: &mut [f32]) -> Answer
     ensures { LeftAnswer found answer.old answer.new result }
 {
     match found {
-        Found::All(takes) => {
+        Ok(takes) => {
             settle(answer);
             Answer::Accepted(Counts { takes })
         }
-        Found::Over(cell) => {
+        Err(over) => {
             fill_nan(answer);
-            Answer::Refused(Refusal::OverBudget(cell))
+            Answer::Refused(Refusal::OverBudget(over.cell))
         }
     }
 }

@@ -1,21 +1,16 @@
--- `adjacent::add_adjacent` meets its contract: before each turn the cells beside the entries that were passed have been tried. Assumes nothing.
-use mathlib.Core.Path.{◌≡◌}
-use native.Mathlib.Omega.{arith}
+-- `adjacent::add_adjacent` meets its contract: before each turn the cells beside those that were passed have been tried. Assumes nothing.
+use lib.Seq.{take_all}
 use Rattle.reach.proofs.Around.{beside_none, beside_more, all_added}
 use Rattle.reach.proofs.adjacent.add_adjacent.Goals as goal
 
-pub loop-k-init : goal.loop-k-init
-loop-k-init c = (omega arith, beside_none c.args.size c.args.listed.now)
+pub loop-cell-init : goal.loop-cell-init
+loop-cell-init c = beside_none c.args.size c.args.listed.now
 
-pub loop-k-preserved : goal.loop-k-preserved
-loop-k-preserved c =
-    let few = c.requires.lists.few in
-    let at = c.loop-k in
-    let below = c.loop-k-test.true in
-    (omega arith, beside_more c.args.size c.args.listed.now at.k (omega arith) at.invariant.1 c.add_around-total.ensures)
+pub loop-cell-preserved : goal.loop-cell-preserved
+loop-cell-preserved c = let at = c.loop-cell in beside_more c.args.size c.args.listed.now at.cell-index c.loop-cell-test.true at.invariant c.add_around-total.ensures
 
 pub returns : goal.returns
 returns c =
-    let at = c.loop-k in
-    let all : at.k ≡ c.args.count = omega arith in
-    all_added c.args.budget c.args.sum c.requires (rw all at at.invariant.1)
+    let at = c.loop-cell in
+    let past = c.loop-cell-test.false in
+    all_added c.args.budget c.args.sum c.requires (rw (take_all at.cell-index c.args.listed.now past) at at.invariant)

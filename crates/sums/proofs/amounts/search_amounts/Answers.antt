@@ -6,20 +6,17 @@ use Rattle.sums.proofs.FromAmounts.{none_summed, next_summed, sum_fits, all_summ
 use Rattle.sums.proofs.amounts.search_amounts.Goals as goal
 
 pub loop-cell-init : goal.loop-cell-init
-loop-cell-init c = (omega arith, c.cell_count-end.ensures, none_summed c.requires)
+loop-cell-init c = none_summed c.requires
 
 pub overflow_add-total : goal.overflow_add-total
-overflow_add-total c = let at = c.loop-cell.invariant in sum_fits at.2 c.search_cell-takes.ensures (rw at.1 at c.loop-cell-test.true)
+overflow_add-total c = sum_fits c.loop-cell.invariant c.search_cell-takes.ensures (rw c.cell_count-end.ensures at c.loop-cell-test.true)
 
 pub loop-cell-preserved : goal.loop-cell-preserved
-loop-cell-preserved c =
-    let at = c.loop-cell.invariant in
-    let below = c.loop-cell-test.true in
-    (omega arith, at.1, next_summed at.2 c.search_cell-takes.ensures)
+loop-cell-preserved c = next_summed c.loop-cell.invariant c.search_cell-takes.ensures
 
 pub returns : goal.returns
 returns c =
-    let at = c.loop-cell.invariant in
-    let done = c.loop-cell-test.false in
+    let end = c.cell_count-end.ensures in
+    let past = c.loop-cell-test.false in
     let all : c.loop-cell.cell ≡ count c.args.size = omega arith in
-    all_summed (rw all at at.2)
+    all_summed (rw all at c.loop-cell.invariant)

@@ -1,11 +1,5 @@
-use mathlib.Core.Path.{◌≡◌}
-use Prim.Native.Nat.{◌≤◌, ◌-◌}
-use Rattle.rules.specs.Sizes.{count}
 use Rattle.sums.proofs.MaskRuns.{MaskTo}
 use Rattle.sums.proofs.mask.search_mask.Given as goal
 
 abbrev pub invariant-loop-cell : goal.invariant-loop-cell
-invariant-loop-cell l = (l.cell ≤ l.end) × (l.end ≡ count l.size) × MaskTo l.size l.mask l.times l.values l.limit l.include_adjacent l.cell l.answer l.distances l.marks l.listed l.met l.queue l.total
-
-abbrev pub decreases-loop-cell : goal.decreases-loop-cell
-decreases-loop-cell l = l.end - l.cell
+invariant-loop-cell l = MaskTo l.size l.mask l.times l.values l.limit l.include_adjacent l.cell l.answer l.distances l.marks l.listed l.met l.queue l.total

@@ -14,5 +14,8 @@ clear_distances-requires c = reached_cells c.requires c.reach_from-reached.ensur
 pub clear_met-requires : goal.clear_met-requires
 clear_met-requires c = reached_clearing c.requires c.reach_from-reached.ensures c.sum_reached-sum.ensures.marks.long
 
+pub returns-then-over : goal.returns-then-over
+returns-then-over c = rw c.if-over.true at (summed_from c.requires c.reach_from-reached.ensures c.is_over_budget-over.ensures c.sum_reached-sum.ensures c.infinity.ensures c.clear_distances.ensures c.clear_met.ensures)
+
 pub returns : goal.returns
-returns c = summed_from c.requires c.reach_from-reached.ensures c.is_over_budget-over.ensures c.sum_reached-sum.ensures c.infinity.ensures c.clear_distances.ensures c.clear_met.ensures
+returns c = rw c.if-over.false at (summed_from c.requires c.reach_from-reached.ensures c.is_over_budget-over.ensures c.sum_reached-sum.ensures c.infinity.ensures c.clear_distances.ensures c.clear_met.ensures)
