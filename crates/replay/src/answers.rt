@@ -19,8 +19,8 @@ fn told_of_refusal(refusal: Refusal) -> Told {
 // What the library answered, by its numbers.
 fn told_of(answer: Answer) -> Told {
     match answer {
-        Answer::Accepted(counts) => Told::Accepted(counts.takes),
-        Answer::Refused(refusal) => told_of_refusal(refusal),
+        Ok(counts) => Told::Accepted(counts.takes),
+        Err(refusal) => told_of_refusal(refusal),
     }
 }
 

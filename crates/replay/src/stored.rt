@@ -1,7 +1,7 @@
 // The stored answer of a case, and what every buffer must hold after the call.
 use crate::words::At;
 use crate::{buffers, grids, words};
-use calls::fill_cells;
+use calls::fill;
 
 // An answer: the takes, or document 01's number of the refusal, with the index where it has one.
 #[derive(Clone, Copy)]
@@ -52,7 +52,7 @@ fn accepted(text: &[u8], at: At, cells: &mut [u32]) -> Stored {
 fn refused(text: &[u8], at: At, cells: &mut [u32]) -> Stored {
     let number = words::decimal(text, words::literal(text, at, b"refused "), 7);
     let at = number.at;
-    fill_cells(cells, left_in_answer(number.value));
+    fill(cells, left_in_answer(number.value));
     if words::peek(text, at) == b' ' {
         let index = words::decimal(text, words::literal(text, at, b" index "), 0xFFFF_FFFF);
         let at = index.at;
