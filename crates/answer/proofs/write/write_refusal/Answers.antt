@@ -1,11 +1,9 @@
--- `write::write_refusal` meets its contract: the number is written, with the index where there is one. Assumes nothing.
-use Rattle.answer.proofs.Sending.{of_number, short_refused, short_refused_at}
+-- `write::write_refusal` meets its contract. Assumes nothing.
+use Rattle.std.proofs.Common.{refl}
+use Rattle.answer.proofs.Sending.{of_number, short_refusal}
 use Rattle.answer.proofs.write.write_refusal.Goals as goal
 
-pub returns-in-Plain : goal.returns-in-Plain
-returns-in-Plain c =
-    of_number c.number_of-numbered.ensures c.in-Plain.is (short_refused c.in-Plain.status c.write_refused.ensures)
-
-pub returns-in-At : goal.returns-in-At
-returns-in-At c =
-    of_number c.number_of-numbered.ensures c.in-At.is (short_refused_at c.in-At.status c.in-At.index c.write_refused-in-At.ensures)
+pub returns : goal.returns
+returns c =
+    let numbered = c.from-numbered.result in
+    of_number numbered c.from-numbered.ensures refl (short_refusal numbered.number numbered.index c.write_refused.ensures)

@@ -7,7 +7,7 @@ use Rattle.sums.proofs.MaskRuns.{none_searched, next_searched, takes_fit, mask_o
 use Rattle.sums.proofs.mask.search_mask.Goals as goal
 
 pub loop-cell-init : goal.loop-cell-init
-loop-cell-init c = none_searched c.requires c.infinity.ensures c.begin_clear.ensures c.fill_cells.ensures
+loop-cell-init c = none_searched c.requires c.infinity.ensures c.begin_clear.ensures c.fill.ensures
 
 pub returns-in_err-takes : goal.returns-in_err-takes
 returns-in_err-takes c =
