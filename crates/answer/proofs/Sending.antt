@@ -6,15 +6,16 @@ use Prim.Native.Nat.{ℕ, ◌≤◌, ◌<◌}
 use native.Mathlib.Omega.{arith}
 use borrow.Author.Tests.{le-leb, lt-leb}
 use lib.Ieee.{Float}
+use Rattle.std.specs.declared.option.Option.{Option}
 use lib.ListN.{length, take}
 use lib.Seq.{take_at}
 use Rattle.rules.specs.Sizes as rules
 use Rattle.rules.specs.Sizes.{number, number_at, Outcome, refused, accepted}
-use Rattle.calls.specs.declared.answer.Answer.{Answer}
-use Rattle.calls.specs.declared.answer.Answer.TheVariants.{Accepted, Refused}
+use Rattle.calls.specs.Answer.{Answer}
+use Rattle.calls.specs.Answer.{Ok, Err}
 use Rattle.calls.specs.declared.numbers.Numbered.{Numbered}
 use Rattle.calls.specs.Answer.{refusal_number}
-use Rattle.calls.specs.Numbered.{numbered_as}
+use Rattle.calls.specs.Numbered.{numbered, numbered_as}
 use Rattle.calls.specs.Promise.{Slice, Promised}
 use Rattle.calls.proofs.Promises.{takes_one, refusal_no_takes}
 use Rattle.gridfile.specs.declared.request.Request.{Request}
@@ -32,10 +33,10 @@ use Rattle.answer.specs.Lending.{stated, OutcomeSent, found}
 -- A call that keeps its promise answers, with its answer slice, what its outcome is. Proof: it says the outcome's refusal or takes, which
 -- decides the case; and an accepted call's answer slice is the outcome's grid.
 pub stated_is : (outcome : Outcome) (r : Answer) {answer : Slice Float} {marks queue : Slice ℕ} → Promised r answer marks queue outcome → stated r answer.after ≡ outcome
-stated_is (refused s) (Refused x) p = cc
-stated_is (refused s) (Accepted counts) p = absurd (refusal_no_takes s counts.takes (sym p.says))
-stated_is (accepted t grid) (Refused x) p = absurd (refusal_no_takes (refusal_number x) t p.says)
-stated_is (accepted t grid) (Accepted counts) {answer} p =
+stated_is (refused s) (Err x) p = cc
+stated_is (refused s) (Ok counts) p = absurd (refusal_no_takes s counts.takes (sym p.says))
+stated_is (accepted t grid) (Err x) p = absurd (refusal_no_takes (refusal_number x) t p.says)
+stated_is (accepted t grid) (Ok counts) {answer} p =
     ap (λ (u : ℕ). accepted u answer.after) (takes_one counts.takes t p.says) ∙ ap (accepted t) p.answer_left
 
 -- ---- no answer is longer than the longest
@@ -54,8 +55,10 @@ module _ {before after : List ℕ} {count : ℕ} where
 
 module _ {before after : List ℕ} {count : ℕ} where
   -- By the case that the code is in.
-  pub of_number : {is x : Numbered} {meant : rules.Refusal} → numbered_as is ≡ meant → is ≡ x → OutcomeSent (refused (numbered_as x)) before after count → OutcomeSent (refused meant) before after count
-  of_number means e sent = subst (λ (r : rules.Refusal). OutcomeSent (refused r) before after count) (sym (ap numbered_as e) ∙ means) sent
+  pub of_number :
+      (n : Numbered) {index : Option ℕ} {meant : rules.Refusal} → numbered_as n ≡ meant → n.index ≡ index
+      → OutcomeSent (refused (numbered n.number index)) before after count → OutcomeSent (refused meant) before after count
+  of_number n means e sent = subst (λ (r : rules.Refusal). OutcomeSent (refused r) before after count) (sym (ap (numbered n.number) e) ∙ means) sent
 
   pub of_answer : {is x : Answer} (cells : List Float) → is ≡ x → OutcomeSent (stated x cells) before after count → OutcomeSent (stated is cells) before after count
   of_answer cells e sent = subst (λ (x : Answer). OutcomeSent (stated x cells) before after count) (sym e) sent

@@ -3,8 +3,8 @@ use Rattle.std.specs.Prelude.{List, ◌≡◌, ℕ, suc, ◌≤◌, Float, lengt
 use Rattle.rules.specs.declared.Size.{Size}
 use Rattle.rules.specs.Sizes.{Outcome, refused, accepted, count}
 use Rattle.cells.specs.Counting.{Countable}
-use Rattle.calls.specs.declared.answer.Answer.{Answer}
-use Rattle.calls.specs.declared.answer.Answer.TheVariants.{Accepted, Refused}
+use Rattle.calls.specs.Answer.{Answer}
+use Rattle.calls.specs.Answer.{Ok, Err}
 use Rattle.calls.specs.Answer.{refusal_number}
 use Rattle.gridfile.specs.declared.request.Request.{Request}
 use Rattle.gridfile.specs.Request.{most_file_cells}
@@ -28,8 +28,8 @@ pub record Lends (size : Size) (cells distances : List Float) (marks listed adja
 
 -- The outcome that a search's answer and its answer slice stand for.
 abbrev pub stated : Answer → List Float → Outcome
-stated (Accepted counts) cells = accepted counts.takes cells
-stated (Refused refusal) cells = refused (refusal_number refusal)
+stated (Ok counts) cells = accepted counts.takes cells
+stated (Err refusal) cells = refused (refusal_number refusal)
 
 -- The bytes of an outcome are sent.
 abbrev pub OutcomeSent : Outcome → (before after : List ℕ) → ℕ → Type 0

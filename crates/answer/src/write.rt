@@ -6,7 +6,7 @@ ghost use Rattle.gridfile.specs.Request.{most_file_cells};
 ghost use Rattle.answer.specs.Answering.{longest};
 ghost use Rattle.answer.specs.Lending.{stated, OutcomeSent};
 
-use calls::{Answer, Numbered, Refusal, number_of};
+use calls::{Answer, Numbered, Refusal};
 use gridfile::{write_accepted, write_refused, write_refused_at};
 
 // Writes the number of a refusal, with its index where it has one.
@@ -14,10 +14,10 @@ fn write_refusal(refusal: Refusal, output: &mut [u8]) -> usize
     requires { longest ≤ length output.old }
     ensures { OutcomeSent (refused (refusal_number refusal)) output.old output.new result }
 {
-    let numbered = number_of(refusal);
-    match numbered {
-        Numbered::Plain(status) => write_refused(status, output),
-        Numbered::At(status, index) => write_refused_at(status, index, output),
+    let numbered = Numbered::from(refusal);
+    match numbered.index {
+        None => write_refused(numbered.number, output),
+        Some(index) => write_refused_at(numbered.number, index, output),
     }
 }
 
@@ -28,7 +28,7 @@ pub fn write_answer(answer: Answer, cells: &[f32], output: &mut [u8]) -> usize
     ensures { OutcomeSent (stated answer cells.now) output.old output.new result }
 {
     match answer {
-        Answer::Accepted(counts) => write_accepted(counts.takes, cells, output),
-        Answer::Refused(refusal) => write_refusal(refusal, output),
+        Ok(counts) => write_accepted(counts.takes, cells, output),
+        Err(refusal) => write_refusal(refusal, output),
     }
 }

@@ -1,24 +1,22 @@
--- The test on the lengths of slices, made one part after the other. Assumes nothing.
-use mathlib.Core.Path.{◌≡◌, sym, ◌∙◌}
-use mathlib.Core.Bool.{true, false, not, ◌||◌, or-true}
-use mathlib.Core.List.{List}
-use Prim.Native.Nat.{ℕ, suc, ◌+◌}
-use native.Mathlib.Numerals.{add-one}
+-- What is known of lengths of which none is other than n. Assumes nothing.
+use mathlib.Core.Path.{◌≡◌}
+use mathlib.Core.Bool.{false}
+use mathlib.Core.List.{List, [], ◌∷◌}
+use Prim.Native.Nat.{ℕ, zero, suc, ◌<◌}
+use native.Mathlib.Nat.{not-suc-le-zero, le_of_suc-le-suc}
+use borrow.Author.Tests.{not-false, eqb-true}
 use lib.Dec.{eqb}
-use Rattle.rules.specs.declared.Size.{Size}
-use Rattle.rules.specs.Sizes.{count, other_than, wrong_length, any}
+use lib.ListN.{length, get_or}
+use Rattle.rules.specs.Sizes.{other_than, any}
 use Rattle.rules.proofs.Any.{any_append}
-use Rattle.calls.specs.Given.{lent}
+use Rattle.rules.proofs.Tests.{neither}
+use Rattle.calls.proofs.Scans.{listed}
 
-module _ (size : Size) (input_lengths lent_lengths : List ℕ) (queue_length : ℕ) {n : ℕ} (counted : n ≡ count size) where
-  parts : wrong_length size input_lengths (lent lent_lengths queue_length) ≡ ((any (other_than n) input_lengths || any (other_than n) lent_lengths) || not (eqb queue_length (suc n)))
-  parts = rw (any_append (other_than (count size)) input_lengths lent_lengths, counted)
+pub each_length : (n : ℕ) (lengths : List ℕ) → any (other_than n) lengths ≡ false → (k d : ℕ) → k < length lengths → get_or lengths k d ≡ n
+unfolding any
+each_length n [] none k d below = absurd (not-suc-le-zero below)
+each_length n (l ∷ rest) none zero d below = eqb-true l n (not-false (eqb l n) (neither (other_than n l) (any (other_than n) rest) none).0)
+each_length n (l ∷ rest) none (suc k) d below = each_length n rest (neither (other_than n l) (any (other_than n) rest) none).1 k d (le_of_suc-le-suc below)
 
-  pub input_wrong : any (other_than n) input_lengths ≡ true → true ≡ wrong_length size input_lengths (lent lent_lengths queue_length)
-  input_wrong some = sym (parts ∙ rw some)
-
-  pub slice_wrong : any (other_than n) lent_lengths ≡ true → true ≡ wrong_length size input_lengths (lent lent_lengths queue_length)
-  slice_wrong some = sym (parts ∙ rw (some, or-true))
-
-  pub queue_decides : any (other_than n) input_lengths ≡ false → any (other_than n) lent_lengths ≡ false → not (eqb queue_length (n + 1)) ≡ wrong_length size input_lengths (lent lent_lengths queue_length)
-  queue_decides inputs_right slices_right = sym (parts ∙ rw (inputs_right, slices_right, add-one))
+-- What a test on sizes and lengths asks for.
+pub ruleset lengths_tested = (listed, any_append, each_length)

@@ -2,7 +2,6 @@
 pub mod Turns
 pub mod Scans
 pub mod RowScans
-pub mod Judgements
 pub mod Lengths
 pub mod Shapes
 pub mod Cases

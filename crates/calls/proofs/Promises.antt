@@ -1,6 +1,6 @@
 -- What every search shows of its promise: a refused call keeps it, an accepted one as its search does, it decides the call, and what an accepted call
 -- found. Assumes nothing.
-use mathlib.Core.Path.{◌≡◌, refl, sym, ap, ◌∙◌, subst}
+use mathlib.Core.Path.{◌≡◌, refl, sym, ap, ◌∙◌}
 use mathlib.Core.Bool.{false}
 use mathlib.Core.List.{List}
 use Prim.Native.Nat.{ℕ}
@@ -11,30 +11,22 @@ use Rattle.rules.specs.Sizes.{Judged, passes, stops, Outcome, accepted, unless}
 use Rattle.rules.proofs.Tests.{never}
 use Rattle.rules.proofs.Decided.{equation_decides}
 use Rattle.calls.specs.Answer as code
-use Rattle.calls.specs.Answer.{Answer, Refused, Passes, Stops, judged_as, refusal, takes, told, tell}
+use Rattle.calls.specs.Answer.{Answer, Err, refusal_number, refusal, takes, told, tell}
 use Rattle.calls.specs.Promise.{Slice, slice, Promised, Same}
 use Rattle.calls.proofs.Decided.{outcome_decides}
-use Rattle.calls.proofs.Untouched.{judged_writes, searched_is, refused_is, answer_untouched, buffer_untouched}
+use Rattle.calls.proofs.Untouched.{judged_writes, refused_is, answer_untouched, buffer_untouched}
 
--- Where the tests of the code pass, those of the rules do.
-pub refuses_none : {refusals : Judged} {judged : code.Judged} → judged_as judged ≡ refusals → judged ≡ Passes → refusals ≡ passes
-refuses_none means is = sym means ∙ ap judged_as is
-
-module _ {refusals : Judged} (search : Unit {0} → Outcome) (judged : code.Judged) (means : judged_as judged ≡ refusals) where
-  -- A call that a test refuses says so and leaves every slice as it was.
+-- A call that a test refuses says so and leaves every slice as it was.
+module _ {refusals : Judged} (search : Unit {0} → Outcome) (refusal : code.Refusal) (stopped : stops (refusal_number refusal) ≡ refusals) where
   pub promised_refused :
-      {refusal : code.Refusal} → judged ≡ Stops refusal → judged_writes refusals ≡ false → (answer : List Float) (marks queue : List ℕ)
-      → Promised (Refused refusal) (slice answer answer) (slice marks marks) (slice queue queue) (unless refusals search)
-  promised_refused is quiet answer marks queue = record {
-    says = sym (ap tell (refused_is search judged means is));
-    answer_left = answer_untouched search judged means is quiet answer;
-    marks_left = buffer_untouched search judged means is quiet 0 marks;
-    queue_left = buffer_untouched search judged means is quiet 0 queue;
+      {r : Answer} → r ≡ Err refusal → judged_writes refusals ≡ false → (answer : List Float) (marks queue : List ℕ)
+      → Promised r (slice answer answer) (slice marks marks) (slice queue queue) (unless refusals search)
+  promised_refused gives quiet answer marks queue = record {
+    says = ap told gives ∙ sym (ap tell (refused_is search refusal stopped));
+    answer_left = answer_untouched search refusal stopped quiet answer;
+    marks_left = buffer_untouched search refusal stopped quiet 0 marks;
+    queue_left = buffer_untouched search refusal stopped quiet 0 queue;
   }
-
-  -- A call that no test refuses keeps the promise of its search, whatever buffers the promise speaks of.
-  pub promised_searched : (Keeps : Outcome → Type 0) {found : Outcome} → judged ≡ Passes → found ≡ search tt → Keeps found → Keeps (unless refusals search)
-  promised_searched Keeps is same kept = subst Keeps (same ∙ sym (searched_is search judged means is)) kept
 
 -- A buffer that is zeroed has the length that it had.
 pub still_zero : {A : Type 0} (zero : A) {after : List A} {long before n : ℕ} → after ≡ replicate long zero → long ≡ n → before ≡ n → after ≡ replicate before zero

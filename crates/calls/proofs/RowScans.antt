@@ -3,12 +3,12 @@ use mathlib.Core.Path.{◌≡◌, ap, ◌∙◌, subst}
 use mathlib.Core.Bool.{Bool, true, false}
 use mathlib.Core.List.{List}
 use Prim.Native.Nat.{ℕ, ◌+◌, ◌*◌, ◌≤◌, ◌<◌}
-use native.Mathlib.Nat.{le_antisymm, zero-mul, add-zero}
+use native.Mathlib.Nat.{le_antisymm, zero-mul}
 use native.Mathlib.Omega.{arith}
 use lib.Arith.{digits_lt}
 use lib.ListN.{length, get_or}
 use Rattle.rules.specs.Sizes.{any, first_index}
-use Rattle.cells.proofs.Interior.{row_below}
+use Rattle.cells.proofs.Bounds.{bounded, cast_is}
 use Rattle.calls.proofs.Scans.{NoneBelow, none_yet, none_more, none_all, one_passes, first_passes}
 
 module _ {A : Type 0} (test : A → Bool) (xs : List A) (rows cols : ℕ) where
@@ -28,9 +28,6 @@ module _ {A : Type 0} (test : A → Bool) (xs : List A) (rows cols : ℕ) where
   pub scan_starts : rows * cols ≡ length xs → AtRow 0
   scan_starts area = record { area = area; in_rows = omega arith; none = rw zero-mul (none_yet test xs) }
 
-  pub row_starts : {row : ℕ} → AtRow row → row < rows → AtColumn row 0
-  row_starts at below = record { area = at.area; in_rows = below; in_cols = omega arith; none = rw add-zero at.none }
-
   module _ {row col : ℕ} (at : AtColumn row col) where
     pub index_in : col < cols → row * cols + col < length xs
     index_in below = subst (λ (n : ℕ). row * cols + col < n) at.area (digits_lt at.in_rows below)
@@ -43,16 +40,6 @@ module _ {A : Type 0} (test : A → Bool) (xs : List A) (rows cols : ℕ) where
       none = subst (λ (k : ℕ). NoneBelow test xs k) (omega arith) (none_more test d at.none (index_in below) fails);
     }
 
-    pub row_ends : cols ≤ col → AtRow (row + 1)
-    row_ends end = record {
-      area = at.area;
-      in_rows = let below = at.in_rows in omega arith;
-      none =
-          let within = at.in_cols in
-          let next = row_below row cols in
-          subst (λ (k : ℕ). NoneBelow test xs k) (omega arith) at.none;
-    }
-
     pub column_passes : (d : A) → col < cols → test (get_or xs (row * cols + col) d) ≡ true → (any test xs ≡ true) × (first_index test xs ≡ row * cols + col)
     column_passes d below passes = (one_passes test d at.none (index_in below) passes, first_passes test d at.none (index_in below) passes)
 
@@ -61,3 +48,6 @@ module _ {A : Type 0} (test : A → Bool) (xs : List A) (rows cols : ℕ) where
       let last : row ≡ rows = le_antisymm at.in_rows end in
       let all : row * cols ≡ length xs = ap (λ (k : ℕ). k * cols) last ∙ at.area in
       none_all test at.none (omega arith)
+
+-- What a loop over the rows and columns of a grid within the bounds asks for.
+pub ruleset row_scans = (bounded, cast_is, scan_starts, column_fails, column_passes, scan_ends)

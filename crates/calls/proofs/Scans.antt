@@ -1,6 +1,7 @@
--- A loop that goes through a slice from the front and stops at the first that passes a test. Assumes nothing.
-use mathlib.Core.Path.{◌≡◌}
-use mathlib.Core.Bool.{Bool, true, false}
+-- A loop, or a chain, that goes through a slice from the front and stops at the first that passes a test. Assumes nothing.
+use mathlib.Core.Path.{◌≡◌, refl, ap}
+use mathlib.Core.Bool.{Bool, true, false, ◌||◌}
+use Rattle.std.specs.List.{list_any}
 use mathlib.Core.List.{List, [], ◌∷◌}
 use Prim.Native.Nat.{ℕ, ◌+◌, ◌≤◌, ◌<◌}
 use native.Mathlib.Omega.{arith}
@@ -9,22 +10,11 @@ use lib.Seq.{take_all}
 use Rattle.rules.specs.Sizes.{any, first_index}
 use Rattle.rules.proofs.Any.{any_none, any_more, any_passes, first_is}
 
--- Whether one of a list passes the test.
-pub record Finds {A : Type 0} (test : A → Bool) (xs : List A) (found : Bool) : Type 0 where
-  pub is : any test xs ≡ found
-
-module _ {A : Type 0} {test : A → Bool} where
-  pub finds_none : Finds test [] false
-  finds_none = record { is = any_none test }
-
-  module _ {a : A} {rest : List A} where
-    pub finds_first : test a ≡ true → Finds test (a ∷ rest) true
-    unfolding any
-    finds_first here = record { is = rw here }
-
-    pub finds_later : {found : Bool} → test a ≡ false → Finds test rest found → Finds test (a ∷ rest) found
-    unfolding any
-    finds_later here later = record { is = rw here later.is }
+-- What the library's `any` says of a list.
+pub listed : {A : Type 0} (test : A → Bool) (xs : List A) → any test xs ≡ list_any test xs
+unfolding any
+listed test [] = refl
+listed test (a ∷ xs) = ap (λ rest. test a || rest) (listed test xs)
 
 -- None of the first i passes the test.
 pub record NoneBelow {A : Type 0} (test : A → Bool) (xs : List A) (i : ℕ) : Type 0 where

@@ -12,8 +12,6 @@ use Rattle.fifo.proofs.Lists.{holds}
 use Rattle.rules.proofs.Refusals.{Tests, shape_not_held}
 use Rattle.rules.proofs.Tests.{and_both, neither}
 use Rattle.cells.proofs.Bounds.{same_number_is}
-use Rattle.calls.specs.Answer as code
-use Rattle.calls.specs.Answer.{judged_as, Passes}
 
 -- Each of a list is a.
 abbrev pub AllEqual : {A : Type 0} → A → List A → Type 0
@@ -51,7 +49,3 @@ module _ {size : Size} {others : List Size} {inputs : List ℕ} {lent : Lent} wh
         long = all_equal (other_than (count size)) (λ l e. eqb-true l (count size) (not-false (eqb l (count size)) e)) (inputs ++ lent.lengths) long;
         queue_long = eqb-true lent.queue_length (suc (count size)) (not-false (eqb lent.queue_length (suc (count size))) queue_long);
       }
-
-  -- So has one of which the code says that it passes those on sizes and lengths.
-  pub judged_shaped : {judged : code.Judged} → judged_as judged ≡ first_that_holds (shape size others inputs lent []) → judged ≡ Passes → Shaped size others inputs lent
-  judged_shaped means is = shaped [] (sym means ∙ ap judged_as is)

@@ -17,11 +17,6 @@ pub record MappedBelow {A : Type 0} (f : A → A) (before now : List A) (i : ℕ
   pub held : now ≡ mapped_below f i before
 
 module _ {A : Type 0} (f : A → A) where
-  length_is : (i : ℕ) (before : List A) → length (mapped_below f i before) ≡ length before
-  length_is zero before = refl
-  length_is (suc i) [] = refl
-  length_is (suc i) (a ∷ before) = ap suc (length_is i before)
-
   -- A store at i of what f makes of what stands there. Proof: by the list, down to index i, where the two lists begin to differ.
   stored : (i : ℕ) (d : A) (before : List A) → i < length before → set (mapped_below f i before) i (f (get_or (mapped_below f i before) i d)) ≡ mapped_below f (suc i) before
   stored i d [] below = absurd (not-suc-le-zero below)
@@ -31,10 +26,7 @@ module _ {A : Type 0} (f : A → A) where
   whole : (i : ℕ) (before : List A) → length before ≤ i → mapped_below f i before ≡ map f before
   whole i before end = rw (take_all i before end, drop_of_length-le before end, append-nil)
 
-  -- A loop's invariant: it holds at 0, a store carries it on by one, and at the end the list is mapped.
-  pub mapped_none : (before : List A) → MappedBelow f before before 0
-  mapped_none before = record { reached = omega arith; held = refl }
-
+  -- A loop's invariant: a store carries it on by one, and at the end the list is mapped.
   pub mapped_more : {before now : List A} {i : ℕ} {v : A} (d : A) → MappedBelow f before now i → i < length before → v ≡ f (get_or now i d) → MappedBelow f before (set now i v) (i + 1)
   mapped_more {before} {now} {i} {v} d turns below is = record {
     reached = omega arith;
@@ -45,13 +37,13 @@ module _ {A : Type 0} (f : A → A) where
         ∙ ap (λ (k : ℕ). mapped_below f k before) (sym (add-one i));
   }
 
-  pub mapped_length : {before now : List A} {i : ℕ} → MappedBelow f before now i → length now ≡ length before
-  mapped_length {before} {now} {i} turns = ap length turns.held ∙ length_is i before
-
   pub mapped_all : {before now : List A} {i : ℕ} → MappedBelow f before now i → length before ≤ i → now ≡ map f before
   mapped_all {before} {now} {i} turns end = turns.held ∙ whole i before end
 
--- The same value everywhere.
-pub map_constant : {A : Type 0} (v : A) (before : List A) → map (λ (a : A). v) before ≡ replicate (length before) v
+map_constant : {A : Type 0} (v : A) (before : List A) → map (λ (a : A). v) before ≡ replicate (length before) v
 map_constant v [] = refl
 map_constant v (a ∷ before) = ap (λ (rest : List _). v ∷ rest) (map_constant v before)
+
+-- The same value everywhere.
+pub filled_all : {A : Type 0} (v : A) {before now : List A} {i : ℕ} → MappedBelow (λ (a : A). v) before now i → length before ≤ i → now ≡ replicate (length before) v
+filled_all v {before} turns end = mapped_all (λ (a : _). v) turns end ∙ map_constant v before

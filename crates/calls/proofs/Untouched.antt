@@ -1,4 +1,4 @@
--- What follows for a call from its judgement: the outcome, and, where it is refused, the lent slices as they were. Assumes nothing.
+-- What follows for a call that a test refuses: the outcome, and the lent slices as they were. Assumes nothing.
 use mathlib.Core.Path.{◌≡◌, refl, sym, ap, ◌∙◌}
 use mathlib.Core.Bool.{Bool, true, false, cond}
 use mathlib.Core.List.{List, [], ◌∷◌}
@@ -11,7 +11,7 @@ use Rattle.rules.specs.Distances.{refusals_1, refusals_2, refusals_3}
 use Rattle.rules.specs.Values.{refusals_4, refusals_5, refusals_6}
 use Rattle.rules.specs.Sums.{refusals_7, refusals_8}
 use Rattle.calls.specs.Answer as code
-use Rattle.calls.specs.Answer.{Passes, Stops, refusal_number, judged_as, writes, answer_after, buffer_after}
+use Rattle.calls.specs.Answer.{refusal_number, writes, answer_after, buffer_after}
 
 -- ---- no refusal that comes before the search writes
 
@@ -70,24 +70,17 @@ quiet_8 times amounts budget lent = quietly _ (refl, (refl, (refl, (refl, (refl,
 
 -- ---- the outcome, and the slices of a call that is refused
 
-module _ {refusals : Judged} (search : Unit {0} → Outcome) (judged : code.Judged) (means : judged_as judged ≡ refusals) where
-  outcome_is : {given : code.Judged} → judged ≡ given → unless refusals search ≡ unless (judged_as given) search
-  outcome_is is = ap (λ (j : Judged). unless j search) (sym means ∙ ap judged_as is)
+module _ {refusals : Judged} (search : Unit {0} → Outcome) (refusal : code.Refusal) (stopped : stops (refusal_number refusal) ≡ refusals) where
+  pub refused_is : unless refusals search ≡ refused (refusal_number refusal)
+  refused_is = ap (λ (j : Judged). unless j search) (sym stopped)
 
-  pub searched_is : judged ≡ Passes → unless refusals search ≡ search tt
-  searched_is is = outcome_is is
+  writes_not : judged_writes refusals ≡ false → writes (refusal_number refusal) ≡ false
+  writes_not quiet = ap judged_writes stopped ∙ quiet
 
-  module _ {refusal : code.Refusal} (is : judged ≡ Stops refusal) where
-    pub refused_is : unless refusals search ≡ refused (refusal_number refusal)
-    refused_is = outcome_is is
+  pub answer_untouched : judged_writes refusals ≡ false → (before : List Float) → before ≡ answer_after (unless refusals search) before
+  answer_untouched quiet before = sym (
+      ap (λ (outcome : Outcome). answer_after outcome before) refused_is ∙ ap (λ (b : Bool). cond b (replicate (length before) nan) before) (writes_not quiet))
 
-    writes_not : judged_writes refusals ≡ false → writes (refusal_number refusal) ≡ false
-    writes_not quiet = ap judged_writes (sym (ap judged_as is) ∙ means) ∙ quiet
-
-    pub answer_untouched : judged_writes refusals ≡ false → (before : List Float) → before ≡ answer_after (unless refusals search) before
-    answer_untouched quiet before = sym (
-        ap (λ (outcome : Outcome). answer_after outcome before) refused_is ∙ ap (λ (b : Bool). cond b (replicate (length before) nan) before) (writes_not quiet))
-
-    pub buffer_untouched : judged_writes refusals ≡ false → {A : Type 0} (zero : A) (before : List A) → before ≡ buffer_after zero (unless refusals search) before
-    buffer_untouched quiet zero before = sym (
-        ap (λ (outcome : Outcome). buffer_after zero outcome before) refused_is ∙ ap (λ (b : Bool). cond b (replicate (length before) zero) before) (writes_not quiet))
+  pub buffer_untouched : judged_writes refusals ≡ false → {A : Type 0} (zero : A) (before : List A) → before ≡ buffer_after zero (unless refusals search) before
+  buffer_untouched quiet zero before = sym (
+      ap (λ (outcome : Outcome). buffer_after zero outcome before) refused_is ∙ ap (λ (b : Bool). cond b (replicate (length before) zero) before) (writes_not quiet))

@@ -5,12 +5,19 @@ use Rattle.rules.specs.Sizes as rules
 use Rattle.rules.specs.Sizes.{number, number_at, passes, stops, Outcome, refused, accepted}
 pub use Rattle.calls.specs.declared.answer.Refusal.{Refusal}
 pub use Rattle.calls.specs.declared.answer.Refusal.TheVariants.{SizeOutOfBounds, SizesDiffer, WrongLength, BadCellSize, BadLimit, NegativeTime, OverBudget}
-pub use Rattle.calls.specs.declared.answer.Judged.{Judged}
-pub use Rattle.calls.specs.declared.answer.Judged.TheVariants.{Passes, Stops}
-pub use Rattle.calls.specs.declared.answer.Answer.{Answer}
-pub use Rattle.calls.specs.declared.answer.Answer.TheVariants.{Accepted, Refused}
+use Rattle.calls.specs.declared.answer.Counts.{Counts}
+use Rattle.std.specs.declared.result.Result.{Result}
+pub use Rattle.std.specs.Prelude.{Ok, Err}
 
--- ---- the code's enums
+-- ---- the code's results
+
+-- What the tests of a call come to: they pass, or the first that holds refuses.
+abbrev pub Judged : Type 0
+Judged = Result (Unit {0}) Refusal
+
+-- What a search answers.
+abbrev pub Answer : Type 0
+Answer = Result Counts Refusal
 
 -- Document 01's number for each refusal, with the index for 6 and 7. Every promise goes through this definition.
 abbrev pub refusal_number : Refusal → rules.Refusal
@@ -24,8 +31,8 @@ refusal_number (OverBudget i) = number_at 7 i
 
 -- The same of what the tests come to.
 abbrev pub judged_as : Judged → rules.Judged
-judged_as Passes = passes
-judged_as (Stops refusal) = stops (refusal_number refusal)
+judged_as (Ok passed) = passes
+judged_as (Err refusal) = stops (refusal_number refusal)
 
 -- What a call says: a refusal, or the takes.
 pub data Told : Type 0 where
@@ -34,8 +41,8 @@ pub data Told : Type 0 where
 
 -- What the code's answer says.
 abbrev pub told : Answer → Told
-told (Accepted counts) = takes counts.takes
-told (Refused r) = refusal (refusal_number r)
+told (Ok counts) = takes counts.takes
+told (Err r) = refusal (refusal_number r)
 
 -- What an outcome of the rules says.
 abbrev pub tell : Outcome → Told

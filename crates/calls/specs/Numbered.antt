@@ -1,8 +1,13 @@
 -- A refusal's number, as the code gives it. Definitions only.
+use Rattle.std.specs.Prelude.{ℕ, Some, None}
+use Rattle.std.specs.declared.option.Option.{Option}
 use Rattle.rules.specs.Sizes.{Refusal, number, number_at}
 pub use Rattle.calls.specs.declared.numbers.Numbered.{Numbered}
-pub use Rattle.calls.specs.declared.numbers.Numbered.TheVariants.{Plain, At}
+
+-- The refusal with this number, and with this index where there is one.
+abbrev pub numbered : ℕ → Option ℕ → Refusal
+numbered k None = number k
+numbered k (Some i) = number_at k i
 
 abbrev pub numbered_as : Numbered → Refusal
-numbered_as (Plain k) = number k
-numbered_as (At k i) = number_at k i
+numbered_as n = numbered n.number n.index

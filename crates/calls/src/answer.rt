@@ -7,7 +7,7 @@ pub struct Counts {
 }
 
 // Why a call is refused, with the index of the time or of the mask cell where there is one.
-#[derive(Clone, Copy)]
+#[derive(Clone, Copy, PartialEq, Eq)]
 pub enum Refusal {
     SizeOutOfBounds,
     SizesDiffer,
@@ -18,16 +18,5 @@ pub enum Refusal {
     OverBudget(u32),
 }
 
-// What the tests of a call come to.
-#[derive(Clone, Copy)]
-pub enum Judged {
-    Passes,
-    Stops(Refusal),
-}
-
 // What a search answers, beside what it leaves in the lent slices.
-#[derive(Clone, Copy)]
-pub enum Answer {
-    Accepted(Counts),
-    Refused(Refusal),
-}
+pub type Answer = Result<Counts, Refusal>;

@@ -1,17 +1,18 @@
 // The refusals 1 to 6 of the searches for distances, tested in document 01's order.
 // A search gives the size and the slice of each input grid, its numbers, the lengths of the answer
 // and of the work buffers in their order, and that of the queue.
+#![tactic(auto, unfolding(rules::specs::Distances::refusals_1, rules::specs::Distances::refusals_2, rules::specs::Distances::refusals_3, rules::specs::Sizes::shape, rules::specs::Sizes::first_that_holds))]
+
 ghost use Rattle.std.specs.Prelude.{◌≡◌};
 ghost use Rattle.rules.specs.Distances.{refusals_1, refusals_2, refusals_3};
 ghost use Rattle.calls.specs.Answer.{judged_as};
 ghost use Rattle.rules.specs.Sizes.{grid};
 ghost use Rattle.calls.specs.Given.{lent};
 
-use crate::answer::Judged;
+use crate::answer::Refusal;
 use crate::limits::{judge_cell_size, judge_limit};
-use crate::order::first_refusal;
-use crate::shape::{judge_one, judge_two};
-use crate::times::judge_limit_and_times;
+use crate::shape::judge_shape;
+use crate::times::first_negative;
 use rules::{Size, Spacing};
 
 // Search 1, `distances_up_to`.
@@ -21,14 +22,12 @@ pub fn judge_1(
     spacing: Spacing,
     lent_lengths: &[usize],
     queue_length: usize,
-) -> Judged
+) -> Result<(), Refusal>
     ensures { judged_as result ≡ refusals_1 (grid size targets.now) spacing (lent lent_lengths.now queue_length) }
 {
-    let shape = judge_one(size, &[targets.len()], lent_lengths, queue_length);
-    let cell_size = judge_cell_size(spacing);
-    let limit = judge_limit(spacing.limit);
-    let numbers = first_refusal(cell_size, limit);
-    first_refusal(shape, numbers)
+    judge_shape(size, &[], &[targets.len()], lent_lengths, queue_length)?;
+    judge_cell_size(spacing)?;
+    judge_limit(spacing.limit)
 }
 
 // Search 2, `distance_with_obstacles`. Its limit is never read.
@@ -40,18 +39,17 @@ pub fn judge_2(
     spacing: Spacing,
     lent_lengths: &[usize],
     queue_length: usize,
-) -> Judged
+) -> Result<(), Refusal>
     ensures { judged_as result ≡ refusals_2 (grid targets_size targets.now) (grid obstacles_size obstacles.now) spacing (lent lent_lengths.now queue_length) }
 {
-    let shape = judge_two(
+    judge_shape(
         targets_size,
-        obstacles_size,
+        &[obstacles_size],
         &[targets.len(), obstacles.len()],
         lent_lengths,
         queue_length,
-    );
-    let cell_size = judge_cell_size(spacing);
-    first_refusal(shape, cell_size)
+    )?;
+    judge_cell_size(spacing)
 }
 
 // Search 3, `travel_distances_up_to`.
@@ -63,18 +61,16 @@ pub fn judge_3(
     cap: f32,
     lent_lengths: &[usize],
     queue_length: usize,
-) -> Judged
+) -> Result<(), Refusal>
     ensures { judged_as result ≡ refusals_3 (grid targets_size targets.now) (grid times_size times.now) cap (lent lent_lengths.now queue_length) }
 {
-    let shape = judge_two(
+    judge_shape(
         targets_size,
-        times_size,
+        &[times_size],
         &[targets.len(), times.len()],
         lent_lengths,
         queue_length,
-    );
-    let Judged::Passes = shape else {
-        return shape;
-    };
-    judge_limit_and_times(judge_limit(cap), targets_size, times)
+    )?;
+    judge_limit(cap)?;
+    first_negative(targets_size, times)
 }

@@ -1,15 +1,27 @@
 // The refusals 1 to 6 of the searches for sums within reach.
-ghost use Rattle.std.specs.Prelude.{◌≡◌};
+#![tactic(auto, unfolding(rules::specs::Sums::refusals_7, rules::specs::Sums::refusals_8, rules::specs::Sizes::shape, rules::specs::Sizes::first_that_holds))]
+
+ghost use Rattle.std.specs.Prelude.{◌≡◌, [], ◌∷◌, T, length};
 ghost use Rattle.rules.specs.Sums.{refusals_7, refusals_8};
 ghost use Rattle.calls.specs.Answer.{judged_as};
-ghost use Rattle.rules.specs.Sizes.{grid};
+ghost use Rattle.rules.specs.Sizes.{grid, in_bounds, count, first_that_holds, bad_budget, negative_time};
 ghost use Rattle.calls.specs.Given.{lent};
 
-use crate::answer::Judged;
+use crate::answer::Refusal;
 use crate::limits::judge_budget;
-use crate::shape::{judge_three, judge_two};
-use crate::times::judge_limit_and_times;
+use crate::shape::judge_shape;
+use crate::times::first_negative;
 use rules::Size;
+
+// 5, by a budget, then 6.
+fn judge_budget_and_times(budget: f32, size: Size, times: &[f32]) -> Result<(), Refusal>
+    requires bounded { T (in_bounds size) }
+    requires whole { length times.now ≡ count size }
+    ensures { judged_as result ≡ first_that_holds (bad_budget budget ∷ negative_time times.now ∷ []) }
+{
+    judge_budget(budget)?;
+    first_negative(size, times)
+}
 
 // Search 7, `sum_within_travel_distance`. Refusal 7 is given only once the search runs.
 pub fn judge_7(
@@ -22,21 +34,17 @@ pub fn judge_7(
     budget: f32,
     lent_lengths: &[usize],
     queue_length: usize,
-) -> Judged
+) -> Result<(), Refusal>
     ensures { judged_as result ≡ refusals_7 (grid mask_size mask.now) (grid times_size times.now) (grid values_size values.now) budget (lent lent_lengths.now queue_length) }
 {
-    let shape = judge_three(
+    judge_shape(
         mask_size,
-        times_size,
-        values_size,
+        &[times_size, values_size],
         &[mask.len(), times.len(), values.len()],
         lent_lengths,
         queue_length,
-    );
-    let Judged::Passes = shape else {
-        return shape;
-    };
-    judge_limit_and_times(judge_budget(budget), mask_size, times)
+    )?;
+    judge_budget_and_times(budget, mask_size, times)
 }
 
 // Search 8, `sum_targets_within_travel_distance`.
@@ -48,18 +56,15 @@ pub fn judge_8(
     budget: f32,
     lent_lengths: &[usize],
     queue_length: usize,
-) -> Judged
+) -> Result<(), Refusal>
     ensures { judged_as result ≡ refusals_8 (grid times_size times.now) (grid amounts_size amounts.now) budget (lent lent_lengths.now queue_length) }
 {
-    let shape = judge_two(
+    judge_shape(
         times_size,
-        amounts_size,
+        &[amounts_size],
         &[times.len(), amounts.len()],
         lent_lengths,
         queue_length,
-    );
-    let Judged::Passes = shape else {
-        return shape;
-    };
-    judge_limit_and_times(judge_budget(budget), times_size, times)
+    )?;
+    judge_budget_and_times(budget, times_size, times)
 }

@@ -1,14 +1,16 @@
 // The refusals 1 to 6 of the searches for values at the closest target.
+#![tactic(auto, unfolding(rules::specs::Values::refusals_4, rules::specs::Values::refusals_5, rules::specs::Values::refusals_6, rules::specs::Sizes::shape, rules::specs::Sizes::first_that_holds))]
+
 ghost use Rattle.std.specs.Prelude.{◌≡◌};
 ghost use Rattle.rules.specs.Values.{refusals_4, refusals_5, refusals_6};
 ghost use Rattle.calls.specs.Answer.{judged_as};
 ghost use Rattle.rules.specs.Sizes.{grid};
 ghost use Rattle.calls.specs.Given.{lent};
 
-use crate::answer::Judged;
+use crate::answer::Refusal;
 use crate::limits::judge_limit;
-use crate::shape::{judge_three, judge_two};
-use crate::times::{first_negative, judge_limit_and_times};
+use crate::shape::judge_shape;
+use crate::times::first_negative;
 use rules::Size;
 
 // Search 4, `value_at_closest_target`.
@@ -19,12 +21,12 @@ pub fn judge_4(
     values: &[f32],
     lent_lengths: &[usize],
     queue_length: usize,
-) -> Judged
+) -> Result<(), Refusal>
     ensures { judged_as result ≡ refusals_4 (grid targets_size targets.now) (grid values_size values.now) (lent lent_lengths.now queue_length) }
 {
-    judge_two(
+    judge_shape(
         targets_size,
-        values_size,
+        &[values_size],
         &[targets.len(), values.len()],
         lent_lengths,
         queue_length,
@@ -41,20 +43,16 @@ pub fn judge_5(
     values: &[f32],
     lent_lengths: &[usize],
     queue_length: usize,
-) -> Judged
+) -> Result<(), Refusal>
     ensures { judged_as result ≡ refusals_5 (grid targets_size targets.now) (grid times_size times.now) (grid values_size values.now) (lent lent_lengths.now queue_length) }
 {
-    let shape = judge_three(
+    judge_shape(
         targets_size,
-        times_size,
-        values_size,
+        &[times_size, values_size],
         &[targets.len(), times.len(), values.len()],
         lent_lengths,
         queue_length,
-    );
-    let Judged::Passes = shape else {
-        return shape;
-    };
+    )?;
     first_negative(targets_size, times)
 }
 
@@ -69,19 +67,16 @@ pub fn judge_6(
     limit: f32,
     lent_lengths: &[usize],
     queue_length: usize,
-) -> Judged
+) -> Result<(), Refusal>
     ensures { judged_as result ≡ refusals_6 (grid targets_size targets.now) (grid times_size times.now) (grid values_size values.now) limit (lent lent_lengths.now queue_length) }
 {
-    let shape = judge_three(
+    judge_shape(
         targets_size,
-        times_size,
-        values_size,
+        &[times_size, values_size],
         &[targets.len(), times.len(), values.len()],
         lent_lengths,
         queue_length,
-    );
-    let Judged::Passes = shape else {
-        return shape;
-    };
-    judge_limit_and_times(judge_limit(limit), targets_size, times)
+    )?;
+    judge_limit(limit)?;
+    first_negative(targets_size, times)
 }

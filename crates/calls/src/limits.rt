@@ -1,13 +1,16 @@
 // The tests on a call's numbers: cell size, cap, time limit and budget.
+#![tactic(auto, unfolding(rules::specs::Sizes::first_that_holds))]
+
 ghost use Rattle.std.specs.Prelude.{◌≡◌, [], ◌∷◌};
 ghost use Rattle.rules.specs.Sizes.{first_that_holds, bad_cell_size, nan_limit, bad_budget};
 ghost use Rattle.calls.specs.Answer.{judged_as};
 
-use crate::answer::{Judged, Refusal};
+use crate::answer::Refusal;
 use binary32::{infinity, is_nodata};
 use rules::Spacing;
 
 // Whether the cell size is not finite or not above 0.
+#[tactic(auto, using(binary32::proofs::DistanceOrder::finite_below_infinity))]
 fn bad_cell_size(spacing: Spacing) -> bool
     ensures { result ≡ (bad_cell_size spacing.cell_size).0 }
 {
@@ -23,31 +26,31 @@ fn bad_budget(limit: f32) -> bool
 }
 
 // 4, by the cell size.
-pub fn judge_cell_size(spacing: Spacing) -> Judged
+pub fn judge_cell_size(spacing: Spacing) -> Result<(), Refusal>
     ensures { judged_as result ≡ first_that_holds (bad_cell_size spacing.cell_size ∷ []) }
 {
     if bad_cell_size(spacing) {
-        return Judged::Stops(Refusal::BadCellSize);
+        return Err(Refusal::BadCellSize);
     }
-    Judged::Passes
+    Ok(())
 }
 
 // 5, by a cap or a time limit.
-pub fn judge_limit(limit: f32) -> Judged
+pub fn judge_limit(limit: f32) -> Result<(), Refusal>
     ensures { judged_as result ≡ first_that_holds (nan_limit limit ∷ []) }
 {
     if is_nodata(limit) {
-        return Judged::Stops(Refusal::BadLimit);
+        return Err(Refusal::BadLimit);
     }
-    Judged::Passes
+    Ok(())
 }
 
 // 5, by a budget.
-pub fn judge_budget(limit: f32) -> Judged
+pub fn judge_budget(limit: f32) -> Result<(), Refusal>
     ensures { judged_as result ≡ first_that_holds (bad_budget limit ∷ []) }
 {
     if bad_budget(limit) {
-        return Judged::Stops(Refusal::BadLimit);
+        return Err(Refusal::BadLimit);
     }
-    Judged::Passes
+    Ok(())
 }

@@ -6,23 +6,26 @@ ghost use Rattle.calls.specs.Numbered.{numbered_as};
 use crate::answer::Refusal;
 
 // A refusal's number, with its index where it has one.
-#[derive(Clone, Copy)]
-pub enum Numbered {
-    Plain(u8),
-    At(u8, u32),
+#[derive(Clone, Copy, Debug, PartialEq, Eq)]
+pub struct Numbered {
+    pub number: u8,
+    pub index: Option<u32>,
 }
 
-// The number of a refusal, with its index for 6 and 7.
-pub fn number_of(refusal: Refusal) -> Numbered
-    ensures { numbered_as result ≡ refusal_number refusal }
-{
-    match refusal {
-        Refusal::SizeOutOfBounds => Numbered::Plain(1),
-        Refusal::SizesDiffer => Numbered::Plain(2),
-        Refusal::WrongLength => Numbered::Plain(3),
-        Refusal::BadCellSize => Numbered::Plain(4),
-        Refusal::BadLimit => Numbered::Plain(5),
-        Refusal::NegativeTime(index) => Numbered::At(6, index),
-        Refusal::OverBudget(index) => Numbered::At(7, index),
+impl From<Refusal> for Numbered {
+    ghost from_gives = { λ refusal numbered. numbered_as numbered ≡ refusal_number refusal };
+
+    // The number of a refusal, with its index for 6 and 7.
+    fn from(refusal: Refusal) -> Numbered {
+        let (number, index) = match refusal {
+            Refusal::SizeOutOfBounds => (1, None),
+            Refusal::SizesDiffer => (2, None),
+            Refusal::WrongLength => (3, None),
+            Refusal::BadCellSize => (4, None),
+            Refusal::BadLimit => (5, None),
+            Refusal::NegativeTime(index) => (6, Some(index)),
+            Refusal::OverBudget(index) => (7, Some(index)),
+        };
+        Numbered { number, index }
     }
 }

@@ -6,12 +6,13 @@ use binary32::one_nan;
 use rules::Spacing;
 
 // Multiplies every distance by the cell size.
+#[tactic(auto, using(crate::proofs::Turns::mapped_more, crate::proofs::Turns::mapped_all), unfolding(rules::specs::Distances::scaled))]
 pub fn scale(distances: &mut [f32], spacing: Spacing)
     ensures { distances.new ≡ scaled spacing.cell_size distances.old }
 {
     let cell_size = spacing.cell_size;
-    for i in 0..distances.len() {
-        distances[i] = one_nan(distances[i] * cell_size);
+    for distance in distances.iter_mut() {
+        *distance = one_nan(*distance * cell_size);
     }
 }
 
@@ -19,7 +20,7 @@ pub fn scale(distances: &mut [f32], spacing: Spacing)
 pub fn settle(answer: &mut [f32])
     ensures { answer.new ≡ answer.old }
 {
-    for i in 0..answer.len() {
-        answer[i] = one_nan(answer[i]);
+    for cell in answer.iter_mut() {
+        *cell = one_nan(*cell);
     }
 }

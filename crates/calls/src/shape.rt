@@ -1,26 +1,44 @@
-// The tests on sizes and lengths, for searches with one, two or three input grids: refusals 1, 2 and 3.
-ghost use Rattle.std.specs.Prelude.{◌≡◌, [], ◌∷◌, T};
-ghost use Rattle.rules.specs.Sizes.{in_bounds, other_than, wrong_length, any, first_that_holds, shape};
+// The tests on sizes and lengths: refusals 1, 2 and 3.
+ghost use Rattle.std.specs.Prelude.{◌≡◌, [], T, OnOk};
+ghost use Rattle.std.specs.List.{All, list_any};
+ghost use Rattle.rules.specs.Sizes.{count, in_bounds, out_of_bounds, differs, other_than, wrong_length, first_that_holds, shape};
 ghost use Rattle.calls.specs.Answer.{judged_as};
 ghost use Rattle.calls.specs.Given.{lent};
 
-use crate::answer::{Judged, Refusal};
-use cells::{cell_count, in_bounds, same_size};
+use crate::answer::Refusal;
+use cells::{cell_count, in_bounds};
 use rules::Size;
+
+// Whether a size breaks the bounds.
+fn any_out_of_bounds(sizes: &[Size]) -> bool
+    ensures { result ≡ list_any out_of_bounds sizes.now }
+{
+    sizes.iter().any(|size| !in_bounds(*size))
+}
+
+// Whether two sizes differ in rows or in columns.
+fn differs(a: Size, b: Size) -> bool
+    ensures { result ≡ differs a b }
+{
+    a != b
+}
+
+// Whether a size differs from the first.
+fn any_differs(first: Size, sizes: &[Size]) -> bool
+    ensures { result ≡ list_any (differs first) sizes.now }
+{
+    sizes.iter().any(|size| differs(first, *size))
+}
 
 // Whether a length is not n.
 fn any_other(n: usize, lengths: &[usize]) -> bool
-    ensures { result ≡ any (other_than n) lengths.now }
+    ensures { result ≡ list_any (other_than n) lengths.now }
 {
-    for i in 0..lengths.len() {
-        if lengths[i] != n {
-            return true;
-        }
-    }
-    false
+    lengths.iter().any(|length| *length != n)
 }
 
 // 3: whether a slice has not its length: n, or n + 1 for the queue.
+#[tactic(auto, using(crate::proofs::Lengths::lengths_tested))]
 fn wrong_length(
     size: Size,
     input_lengths: &[usize],
@@ -31,71 +49,30 @@ fn wrong_length(
     ensures { result ≡ wrong_length size input_lengths.now (lent lent_lengths.now queue_length) }
 {
     let n = cell_count(size);
-    if any_other(n, input_lengths) || any_other(n, lent_lengths) {
-        return true;
-    }
-    queue_length != n + 1
+    any_other(n, input_lengths) || any_other(n, lent_lengths) || queue_length != n + 1
 }
 
-// 1 to 3 where there is one input grid.
-pub fn judge_one(
+// 1 to 3, in this order: the size of the first input grid, those of the others, and the lengths of all slices.
+#[tactic(auto, using(crate::proofs::Lengths::lengths_tested), unfolding(rules::specs::Sizes::shape, rules::specs::Sizes::first_that_holds))]
+pub fn judge_shape(
     size: Size,
+    others: &[Size],
     input_lengths: &[usize],
     lent_lengths: &[usize],
     queue_length: usize,
-) -> Judged
-    ensures { judged_as result ≡ first_that_holds (shape size [] input_lengths.now (lent lent_lengths.now queue_length) []) }
+) -> Result<(), Refusal>
+    ensures bounded { OnOk result (T (in_bounds size)) }
+    ensures whole { OnOk result (All (λ length. length ≡ count size) input_lengths.now) }
+    ensures judged { judged_as result ≡ first_that_holds (shape size others.now input_lengths.now (lent lent_lengths.now queue_length) []) }
 {
-    if !in_bounds(size) {
-        return Judged::Stops(Refusal::SizeOutOfBounds);
+    if !in_bounds(size) || any_out_of_bounds(others) {
+        return Err(Refusal::SizeOutOfBounds);
+    }
+    if any_differs(size, others) {
+        return Err(Refusal::SizesDiffer);
     }
     if wrong_length(size, input_lengths, lent_lengths, queue_length) {
-        return Judged::Stops(Refusal::WrongLength);
+        return Err(Refusal::WrongLength);
     }
-    Judged::Passes
-}
-
-// 1 to 3 where there are two.
-pub fn judge_two(
-    a: Size,
-    b: Size,
-    input_lengths: &[usize],
-    lent_lengths: &[usize],
-    queue_length: usize,
-) -> Judged
-    ensures { judged_as result ≡ first_that_holds (shape a (b ∷ []) input_lengths.now (lent lent_lengths.now queue_length) []) }
-{
-    if !in_bounds(a) || !in_bounds(b) {
-        return Judged::Stops(Refusal::SizeOutOfBounds);
-    }
-    if !same_size(a, b) {
-        return Judged::Stops(Refusal::SizesDiffer);
-    }
-    if wrong_length(a, input_lengths, lent_lengths, queue_length) {
-        return Judged::Stops(Refusal::WrongLength);
-    }
-    Judged::Passes
-}
-
-// 1 to 3 where there are three.
-pub fn judge_three(
-    a: Size,
-    b: Size,
-    c: Size,
-    input_lengths: &[usize],
-    lent_lengths: &[usize],
-    queue_length: usize,
-) -> Judged
-    ensures { judged_as result ≡ first_that_holds (shape a (b ∷ c ∷ []) input_lengths.now (lent lent_lengths.now queue_length) []) }
-{
-    if !in_bounds(a) || !in_bounds(b) || !in_bounds(c) {
-        return Judged::Stops(Refusal::SizeOutOfBounds);
-    }
-    if !same_size(a, b) || !same_size(a, c) {
-        return Judged::Stops(Refusal::SizesDiffer);
-    }
-    if wrong_length(a, input_lengths, lent_lengths, queue_length) {
-        return Judged::Stops(Refusal::WrongLength);
-    }
-    Judged::Passes
+    Ok(())
 }

@@ -5,7 +5,7 @@ use lib.Ieee.{Float}
 use Rattle.rules.specs.declared.BarrierDiagonals.{BarrierDiagonals}
 use Rattle.rules.specs.declared.Size.{Size}
 use Rattle.rules.specs.declared.Spacing.{Spacing}
-use Rattle.calls.specs.declared.answer.Answer.{Answer}
+use Rattle.calls.specs.Answer.{Answer}
 use Rattle.calls.specs.Promise.{slice, Same}
 use Rattle.calls.proofs.Promises.{promise_decides}
 use Rattle.distances.specs.Promise.{DistancesUpTo, Distance, DistanceWithObstacles, TravelDistancesUpTo, TravelDistance}

@@ -22,7 +22,7 @@ use Rattle.rules.proofs.Inputs.{AcceptedTimes}
 use Rattle.rules.proofs.Accepted.{accepted_1, accepted_3}
 use Rattle.rules.proofs.Nets.{plain_laws, obstacles_laws, travel_laws}
 use Rattle.rules.proofs.LeastSums.{least_sums_1, least_sums_2, least_sums_3}
-use Rattle.calls.specs.declared.answer.Answer.{Answer}
+use Rattle.calls.specs.Answer.{Answer}
 use Rattle.calls.specs.Answer.{takes, told}
 use Rattle.calls.specs.Promise.{Slice}
 use Rattle.calls.proofs.Promises.{Found, accepted_found}

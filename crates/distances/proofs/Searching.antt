@@ -15,8 +15,8 @@ use Rattle.rules.specs.Sizes.{grid, Lent, accepted, passes, in_bounds, count}
 use Rattle.rules.specs.Distances.{scaled, plain, with_obstacles, travel, refusals_1, refusals_2, refusals_3}
 use Rattle.rules.proofs.Accepted.{accepted_1, accepted_3}
 use Rattle.rules.proofs.Nets.{plain_laws, obstacles_laws, travel_laws}
-use Rattle.calls.specs.declared.answer.Answer.{Answer}
-use Rattle.calls.specs.declared.answer.Answer.TheVariants.{Accepted}
+use Rattle.calls.specs.Answer.{Answer}
+use Rattle.calls.specs.Answer.{Ok}
 use Rattle.calls.specs.Answer.{takes}
 use Rattle.calls.specs.Given.{lent}
 use Rattle.calls.specs.Promise.{Slice, slice, Promised}
@@ -37,7 +37,7 @@ pub found_promised :
     {search : Search} {of : Grids} {distances carried distances₁ carried₁ : List Float} {marks marks₁ marks₂ queue queue₁ queue₂ : List ℕ} {t : ℕ}
     → Spreads search of distances carried marks queue → Spread search of carried distances₁ carried₁ marks₁ queue₁ t
     → marks₂ ≡ replicate (length marks₁) 0 → queue₂ ≡ replicate (length queue₁) 0
-    → Promised (Accepted (record { takes = t })) (slice distances distances₁) (slice marks marks₂) (slice queue queue₂) (found search of)
+    → Promised (Ok (record { takes = t })) (slice distances distances₁) (slice marks marks₂) (slice queue queue₂) (found search of)
 unfolding found
 found_promised asked spreads marks_zeroed queue_zeroed = record {
   says = ap takes spreads.counted;

@@ -8,7 +8,7 @@ use Rattle.rules.specs.declared.BarrierDiagonals.{BarrierDiagonals}
 use Rattle.rules.specs.Sizes.{grid, Lent, Outcome, accepted}
 use Rattle.rules.specs.Numbers.{infinity}
 use Rattle.rules.specs.Distances.{scaled, outcome_1, outcome_2, outcome_3}
-use Rattle.calls.specs.declared.answer.Answer.{Answer}
+use Rattle.calls.specs.Answer.{Answer}
 use Rattle.calls.specs.Given.{lent}
 use Rattle.calls.specs.Promise.{Slice, Promised}
 use Rattle.spread.specs.declared.search.Search.{Search}

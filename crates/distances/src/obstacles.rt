@@ -3,11 +3,12 @@ ghost use Rattle.calls.specs.Promise.{slice};
 ghost use Rattle.distances.specs.Promise.{DistanceWithObstacles};
 
 use crate::search::search_distances;
-use calls::{Answer, Judged, judge_2};
+use calls::{Answer, judge_2};
 use rules::{BarrierDiagonals, Size, Spacing};
 use spread::{Rule, Search};
 
 // The distance of each cell to the nearest target, past obstacles. The limit is not read.
+#[tactic(auto, using(crate::proofs::Searching::obstacles_searches, crate::proofs::Searching::obstacles_searched), unfolding(rules::specs::Distances::outcome_2))]
 pub fn distance_with_obstacles(
     targets_size: Size,
     targets: &[u8],
@@ -21,7 +22,7 @@ pub fn distance_with_obstacles(
 ) -> Answer
     ensures { DistanceWithObstacles targets_size targets.now obstacles_size obstacles.now spacing diagonals (slice answer.old answer.new) (slice marks.old marks.new) (slice queue.old queue.new) result }
 {
-    let judged = judge_2(
+    judge_2(
         targets_size,
         targets,
         obstacles_size,
@@ -29,16 +30,11 @@ pub fn distance_with_obstacles(
         spacing,
         &[answer.len(), marks.len()],
         queue.len(),
-    );
-    match judged {
-        Judged::Stops(refusal) => Answer::Refused(refusal),
-        Judged::Passes => {
-            let search = Search {
-                rule: Rule::Obstacles(diagonals),
-                size: targets_size,
-                limit: 0.0,
-            };
-            search_distances(search, targets, obstacles, spacing, answer, marks, queue)
-        }
-    }
+    )?;
+    let search = Search {
+        rule: Rule::Obstacles(diagonals),
+        size: targets_size,
+        limit: 0.0,
+    };
+    Ok(search_distances(search, targets, obstacles, spacing, answer, marks, queue))
 }

@@ -4,11 +4,12 @@ ghost use Rattle.distances.specs.Promise.{DistancesUpTo, Distance};
 
 use crate::search::search_distances;
 use binary32::infinity;
-use calls::{Answer, Judged, judge_1};
+use calls::{Answer, judge_1};
 use rules::{Size, Spacing};
 use spread::{Rule, Search};
 
 // The distance of each cell to the nearest target, up to the limit.
+#[tactic(auto, using(crate::proofs::Searching::plain_searches, crate::proofs::Searching::plain_searched), unfolding(rules::specs::Distances::outcome_1))]
 pub fn distances_up_to(
     size: Size,
     targets: &[u8],
@@ -19,24 +20,19 @@ pub fn distances_up_to(
 ) -> Answer
     ensures { DistancesUpTo size targets.now spacing (slice answer.old answer.new) (slice marks.old marks.new) (slice queue.old queue.new) result }
 {
-    let judged = judge_1(
+    judge_1(
         size,
         targets,
         spacing,
         &[answer.len(), marks.len()],
         queue.len(),
-    );
-    match judged {
-        Judged::Stops(refusal) => Answer::Refused(refusal),
-        Judged::Passes => {
-            let search = Search {
-                rule: Rule::Plain,
-                size,
-                limit: spacing.limit,
-            };
-            search_distances(search, targets, targets, spacing, answer, marks, queue)
-        }
-    }
+    )?;
+    let search = Search {
+        rule: Rule::Plain,
+        size,
+        limit: spacing.limit,
+    };
+    Ok(search_distances(search, targets, targets, spacing, answer, marks, queue))
 }
 
 // The distance of each cell to the nearest target, however far.

@@ -3,7 +3,7 @@ ghost use Rattle.calls.specs.Promise.{slice, Promised};
 ghost use Rattle.spread.specs.Promise.{grids};
 ghost use Rattle.distances.specs.Promise.{unread, Searches, found, searched};
 
-use calls::{Answer, Counts, fill_bytes, fill_cells, scale, settle};
+use calls::{Counts, fill, scale, settle};
 use rules::Spacing;
 use spread::{Search, spread};
 
@@ -16,9 +16,9 @@ fn find_distances(
     answer: &mut [f32],
     marks: &mut [u8],
     queue: &mut [u32],
-) -> Answer
+) -> Counts
     requires { Searches search (grids targets.now obstacles.now times.now unread) answer.old marks.old queue.old }
-    ensures { Promised result (slice answer.old answer.new) (slice marks.old marks.new) (slice queue.old queue.new) (found search (grids targets.now obstacles.now times.now unread)) }
+    ensures { Promised (Ok result) (slice answer.old answer.new) (slice marks.old marks.new) (slice queue.old queue.new) (found search (grids targets.now obstacles.now times.now unread)) }
 {
     let values = [0.0; 1];
     let mut carried = [0.0; 1];
@@ -33,9 +33,9 @@ fn find_distances(
         marks,
         queue,
     );
-    fill_bytes(marks, 0);
-    fill_cells(queue, 0);
-    Answer::Accepted(Counts { takes })
+    fill(marks, 0);
+    fill(queue, 0);
+    Counts { takes }
 }
 
 // The same where no rule reads times, and the distances are scaled.
@@ -47,9 +47,9 @@ pub fn search_distances(
     answer: &mut [f32],
     marks: &mut [u8],
     queue: &mut [u32],
-) -> Answer
+) -> Counts
     requires { Searches search (grids targets.now obstacles.now unread unread) answer.old marks.old queue.old }
-    ensures { Promised result (slice answer.old answer.new) (slice marks.old marks.new) (slice queue.old queue.new) (searched search (grids targets.now obstacles.now unread unread) spacing) }
+    ensures { Promised (Ok result) (slice answer.old answer.new) (slice marks.old marks.new) (slice queue.old queue.new) (searched search (grids targets.now obstacles.now unread unread) spacing) }
 {
     let times = [0.0; 1];
     let found = find_distances(search, targets, obstacles, &times, answer, marks, queue);
@@ -65,9 +65,9 @@ pub fn search_travel(
     answer: &mut [f32],
     marks: &mut [u8],
     queue: &mut [u32],
-) -> Answer
+) -> Counts
     requires { Searches search (grids targets.now targets.now times.now unread) answer.old marks.old queue.old }
-    ensures { Promised result (slice answer.old answer.new) (slice marks.old marks.new) (slice queue.old queue.new) (found search (grids targets.now targets.now times.now unread)) }
+    ensures { Promised (Ok result) (slice answer.old answer.new) (slice marks.old marks.new) (slice queue.old queue.new) (found search (grids targets.now targets.now times.now unread)) }
 {
     let found = find_distances(search, targets, targets, times, answer, marks, queue);
     settle(answer);

@@ -4,11 +4,12 @@ ghost use Rattle.distances.specs.Promise.{TravelDistancesUpTo, TravelDistance};
 
 use crate::search::search_travel;
 use binary32::infinity;
-use calls::{Answer, Judged, judge_3};
+use calls::{Answer, judge_3};
 use rules::Size;
 use spread::{Rule, Search};
 
 // The travel time of each cell to the nearest target, up to the limit.
+#[tactic(auto, using(crate::proofs::Searching::travel_searches, crate::proofs::Searching::travel_found), unfolding(rules::specs::Distances::outcome_3))]
 pub fn travel_distances_up_to(
     targets_size: Size,
     targets: &[u8],
@@ -21,7 +22,7 @@ pub fn travel_distances_up_to(
 ) -> Answer
     ensures { TravelDistancesUpTo targets_size targets.now times_size times.now limit (slice answer.old answer.new) (slice marks.old marks.new) (slice queue.old queue.new) result }
 {
-    let judged = judge_3(
+    judge_3(
         targets_size,
         targets,
         times_size,
@@ -29,18 +30,13 @@ pub fn travel_distances_up_to(
         limit,
         &[answer.len(), marks.len()],
         queue.len(),
-    );
-    match judged {
-        Judged::Stops(refusal) => Answer::Refused(refusal),
-        Judged::Passes => {
-            let search = Search {
-                rule: Rule::HalfSum,
-                size: targets_size,
-                limit,
-            };
-            search_travel(search, targets, times, answer, marks, queue)
-        }
-    }
+    )?;
+    let search = Search {
+        rule: Rule::HalfSum,
+        size: targets_size,
+        limit,
+    };
+    Ok(search_travel(search, targets, times, answer, marks, queue))
 }
 
 // The travel time of each cell to the nearest target, however long.

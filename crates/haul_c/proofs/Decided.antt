@@ -6,7 +6,7 @@ use lib.IntN.{ℤ}
 use lib.Ieee.{Float}
 use Rattle.binary32.specs.Numbers.{plus_zero}
 use Rattle.rules.proofs.Decided.{equation_decides}
-use Rattle.calls.specs.declared.answer.Answer.{Answer}
+use Rattle.calls.specs.Answer.{Answer}
 use Rattle.calls.specs.Answer.{Told, told}
 use Rattle.calls.specs.Promise.{slice, Same}
 use Rattle.distances.proofs.Decided.{distances_up_to_decided, distance_with_obstacles_decided, travel_distances_up_to_decided}

@@ -4,7 +4,7 @@ use Rattle.binary32.specs.Numbers.{plus_zero}
 use Rattle.rules.specs.declared.Size.{Size}
 use Rattle.rules.specs.declared.Spacing.{Spacing}
 use Rattle.rules.specs.Sizes.{number, number_at}
-use Rattle.calls.specs.declared.answer.Answer.{Answer}
+use Rattle.calls.specs.Answer.{Answer}
 use Rattle.calls.specs.Answer.{Told, refusal, takes, told}
 use Rattle.calls.specs.Promise.{Slice}
 use Rattle.distances.specs.Promise.{DistancesUpTo, DistanceWithObstacles, TravelDistancesUpTo}

@@ -12,7 +12,7 @@ use crate::relax::carry;
 use crate::search::{Rule, Search};
 use crate::waiting::{MARK_TODO, begin_waiting, wait};
 use binary32::{infinity, is_nodata};
-use calls::{fill_bytes, fill_floats};
+use calls::fill;
 use cells::{Ring, cell_count};
 
 // One cell begins.
@@ -78,8 +78,8 @@ pub fn begin_clear(cap: f32, distances: &mut [f32], marks: &mut [u8])
     requires { length marks.old ≡ length distances.old }
     ensures { Clear (length distances.old) cap distances.new marks.new }
 {
-    fill_floats(distances, cap);
-    fill_bytes(marks, MARK_TODO);
+    fill(distances, cap);
+    fill(marks, MARK_TODO);
 }
 
 // One cell begins, at distance 0, where none is reached. It waits if its time has data.

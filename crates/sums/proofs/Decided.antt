@@ -15,7 +15,7 @@ use Rattle.rules.proofs.Inputs.{AcceptedTimes, AcceptedBudget}
 use Rattle.rules.proofs.Accepted.{accepted_7, accepted_8}
 use Rattle.rules.proofs.Squares.{mask_cell_ends, amount_ends}
 use Rattle.rules.proofs.Totals.{total_takes_7, total_takes_8}
-use Rattle.calls.specs.declared.answer.Answer.{Answer}
+use Rattle.calls.specs.Answer.{Answer}
 use Rattle.calls.specs.Answer.{takes, told, tell}
 use Rattle.calls.specs.Promise.{Slice, slice, Same}
 use Rattle.calls.proofs.Promises.{promise_decides, accepted_found}

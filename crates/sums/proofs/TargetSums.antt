@@ -14,18 +14,16 @@ use Rattle.fifo.proofs.Lists.{tested, holds}
 use Rattle.fifo.proofs.Induction.{takes_stopped}
 use Rattle.fifo.proofs.Ends.{laws_within}
 use Rattle.rules.specs.declared.Size.{Size}
-use Rattle.rules.specs.Sizes.{Grid, grid, Judged, Lent, Outcome, passes, unless, count}
+use Rattle.rules.specs.Sizes.{Grid, grid, Judged, Lent, Outcome, passes, stops, unless, count}
 use Rattle.rules.specs.Distances.{has_data}
 use Rattle.rules.specs.Sums.{from_amount, refusals_8, found_8}
 use Rattle.rules.proofs.Inputs.{AcceptedTimes, AcceptedBudget}
 use Rattle.rules.proofs.Accepted.{accepted_8}
 use Rattle.rules.proofs.Nets.{amount_laws}
 use Rattle.rules.proofs.Squares.{amount_idle}
-use Rattle.calls.specs.declared.answer.Answer.TheVariants.{Accepted, Refused}
-use Rattle.calls.specs.declared.answer.Judged.{Judged as CodeJudged}
-use Rattle.calls.specs.declared.answer.Judged.TheVariants.{Stops}
+use Rattle.calls.specs.Answer.{Ok, Err}
 use Rattle.calls.specs.declared.answer.Refusal.{Refusal}
-use Rattle.calls.specs.Answer.{judged_as}
+use Rattle.calls.specs.Answer.{Answer, refusal_number}
 use Rattle.calls.specs.Answer as told
 use Rattle.calls.specs.Given.{lent}
 use Rattle.calls.specs.Promise.{slice}
@@ -69,7 +67,7 @@ pub summed_promised :
     → Sums size times amounts limit answer distances marks added queue → SearchedAll size times amounts limit answer₁ distances₁ marks₁ added₁ queue₁ t
     → answer₂ ≡ answer₁ → distances₂ ≡ replicate (length distances₁) plus_zero → marks₂ ≡ replicate (length marks₁) 0
     → added₂ ≡ replicate (length added₁) 0 → queue₂ ≡ replicate (length queue₁) 0
-    → PromisedGains (Accepted (record { takes = t })) (slice answer answer₂) (slice distances distances₂) (slice marks marks₂) (slice added added₂) (slice queue queue₂) (summed size times amounts limit)
+    → PromisedGains (Ok (record { takes = t })) (slice answer answer₂) (slice distances distances₂) (slice marks marks₂) (slice added added₂) (slice queue queue₂) (summed size times amounts limit)
 unfolding summed
 summed_promised asked found settled distances_zeroed marks_zeroed added_zeroed queue_zeroed =
     let before = asked.asked.lengths in
@@ -87,14 +85,14 @@ summed_promised asked found settled distances_zeroed marks_zeroed added_zeroed q
 
 -- ---- a refused call
 
-module _ {refusals : Judged} (search : Unit {0} → Outcome) (judged : CodeJudged) (means : judged_as judged ≡ refusals) where
+module _ {refusals : Judged} (search : Unit {0} → Outcome) (refusal : Refusal) (stopped : stops (refusal_number refusal) ≡ refusals) where
   pub gains_refused :
-      {refusal : Refusal} → judged ≡ Stops refusal → judged_writes refusals ≡ false → (answer distances : List Float) (marks added queue : List ℕ)
-      → PromisedGains (Refused refusal) (slice answer answer) (slice distances distances) (slice marks marks) (slice added added) (slice queue queue) (unless refusals search)
-  gains_refused is quiet answer distances marks added queue = record {
-    promised = promised_refused search judged means is quiet answer marks queue;
-    distances_left = buffer_untouched search judged means is quiet plus_zero distances;
-    added_left = buffer_untouched search judged means is quiet 0 added;
+      {r : Answer} → r ≡ Err refusal → judged_writes refusals ≡ false → (answer distances : List Float) (marks added queue : List ℕ)
+      → PromisedGains r (slice answer answer) (slice distances distances) (slice marks marks) (slice added added) (slice queue queue) (unless refusals search)
+  gains_refused gives quiet answer distances marks added queue = record {
+    promised = promised_refused search refusal stopped gives quiet answer marks queue;
+    distances_left = buffer_untouched search refusal stopped quiet plus_zero distances;
+    added_left = buffer_untouched search refusal stopped quiet 0 added;
   }
 
 -- ---- the tests

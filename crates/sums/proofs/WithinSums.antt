@@ -9,17 +9,15 @@ use lib.ListN.{length, get_or, replicate, length-replicate}
 use Rattle.binary32.specs.Numbers.{plus_zero}
 use Rattle.fifo.proofs.Ends.{laws_within}
 use Rattle.rules.specs.declared.Size.{Size}
-use Rattle.rules.specs.Sizes.{grid, Judged, Lent, Outcome, passes, unless}
+use Rattle.rules.specs.Sizes.{grid, Judged, Lent, Outcome, passes, stops, unless}
 use Rattle.rules.specs.Sums.{from_mask_cell, refusals_7, found_7}
 use Rattle.rules.proofs.Accepted.{accepted_7}
 use Rattle.rules.proofs.Nets.{mask_cell_laws}
-use Rattle.calls.specs.declared.answer.Answer.{Answer}
-use Rattle.calls.specs.declared.answer.Answer.TheVariants.{Accepted, Refused}
-use Rattle.calls.specs.declared.answer.Judged.{Judged as CodeJudged}
-use Rattle.calls.specs.declared.answer.Judged.TheVariants.{Stops}
+use Rattle.calls.specs.Answer.{Answer}
+use Rattle.calls.specs.Answer.{Ok, Err}
 use Rattle.calls.specs.declared.answer.Refusal.{Refusal}
 use Rattle.calls.specs.declared.answer.Refusal.TheVariants.{OverBudget}
-use Rattle.calls.specs.Answer.{judged_as, tell, answer_after, buffer_after}
+use Rattle.calls.specs.Answer.{refusal_number, tell, answer_after, buffer_after}
 use Rattle.calls.specs.Given.{lent}
 use Rattle.calls.specs.Promise.{slice}
 use Rattle.calls.proofs.Shapes.{shaped}
@@ -33,14 +31,14 @@ use Rattle.sums.specs.Promise.{PromisedSums}
 -- ---- the answer that is left
 
 module _ {found : Found} {answer answer' : List Float} where
-  pub left_all : {takes : ℕ} → found ≡ All takes → answer' ≡ answer → LeftAnswer found answer answer' (Accepted (record { takes = takes }))
+  pub left_all : {takes : ℕ} → found ≡ All takes → answer' ≡ answer → LeftAnswer found answer answer' (Ok (record { takes = takes }))
   left_all is settled = record {
     same_length = ap length settled;
     says = sym (ap (λ (f : Found). tell (found_as f answer)) is);
     answer_left = settled ∙ sym (ap (λ (f : Found). answer_after (found_as f answer) answer) is);
   }
 
-  pub left_over : {cell : ℕ} → found ≡ Over cell → answer' ≡ replicate (length answer) nan → LeftAnswer found answer answer' (Refused (OverBudget cell))
+  pub left_over : {cell : ℕ} → found ≡ Over cell → answer' ≡ replicate (length answer) nan → LeftAnswer found answer answer' (Err (OverBudget cell))
   left_over is filled = record {
     same_length = ap length filled ∙ length-replicate (length answer) nan;
     says = sym (ap (λ (f : Found). tell (found_as f answer)) is);
@@ -102,15 +100,15 @@ mask_promised {answer = answer} {distances} {marks} {listed} {met} {queue} {answ
 
 -- ---- a refused call
 
-module _ {refusals : Judged} (search : Unit {0} → Outcome) (judged : CodeJudged) (means : judged_as judged ≡ refusals) where
+module _ {refusals : Judged} (search : Unit {0} → Outcome) (refusal : Refusal) (stopped : stops (refusal_number refusal) ≡ refusals) where
   pub sums_refused :
-      {refusal : Refusal} → judged ≡ Stops refusal → judged_writes refusals ≡ false → (answer distances : List Float) (marks listed adjacent queue : List ℕ)
-      → PromisedSums (Refused refusal) (slice answer answer) (slice distances distances) (slice marks marks) (slice listed listed) (slice adjacent adjacent) (slice queue queue) (unless refusals search)
-  sums_refused is quiet answer distances marks listed adjacent queue = record {
-    promised = promised_refused search judged means is quiet answer marks queue;
-    distances_left = buffer_untouched search judged means is quiet plus_zero distances;
-    listed_left = buffer_untouched search judged means is quiet 0 listed;
-    adjacent_left = buffer_untouched search judged means is quiet 0 adjacent;
+      {r : Answer} → r ≡ Err refusal → judged_writes refusals ≡ false → (answer distances : List Float) (marks listed adjacent queue : List ℕ)
+      → PromisedSums r (slice answer answer) (slice distances distances) (slice marks marks) (slice listed listed) (slice adjacent adjacent) (slice queue queue) (unless refusals search)
+  sums_refused gives quiet answer distances marks listed adjacent queue = record {
+    promised = promised_refused search refusal stopped gives quiet answer marks queue;
+    distances_left = buffer_untouched search refusal stopped quiet plus_zero distances;
+    listed_left = buffer_untouched search refusal stopped quiet 0 listed;
+    adjacent_left = buffer_untouched search refusal stopped quiet 0 adjacent;
   }
 
 -- ---- the tests

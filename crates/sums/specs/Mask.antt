@@ -6,7 +6,7 @@ use Rattle.rules.specs.Numbers.{infinity}
 use Rattle.rules.specs.Sizes.{grid, number_at, Outcome, refused, accepted, count}
 use Rattle.rules.specs.Distances.{target}
 use Rattle.rules.specs.Sums.{from_mask_cell, sum_of, over_budget, found_7}
-use Rattle.calls.specs.declared.answer.Answer.{Answer}
+use Rattle.calls.specs.Answer.{Answer}
 use Rattle.calls.specs.Answer.{told, tell, answer_after}
 use Rattle.sums.specs.declared.mask.Searched.{Searched}
 use Rattle.sums.specs.declared.mask.Found.{Found}

@@ -4,7 +4,7 @@ use Rattle.binary32.specs.Numbers.{plus_zero}
 use Rattle.rules.specs.declared.Size.{Size}
 use Rattle.rules.specs.Sizes.{grid, Lent, Outcome, count}
 use Rattle.rules.specs.Sums.{outcome_7, found_8, outcome_8}
-use Rattle.calls.specs.declared.answer.Answer.{Answer}
+use Rattle.calls.specs.Answer.{Answer}
 use Rattle.calls.specs.Answer.{buffer_after}
 use Rattle.calls.specs.Given.{lent}
 use Rattle.calls.specs.Promise.{Slice, Promised}

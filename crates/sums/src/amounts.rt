@@ -7,7 +7,7 @@ ghost use Rattle.sums.specs.FromAmounts.{Searching, SearchedAmount, SearchingCel
 
 use crate::gain::run_gaining;
 use binary32::is_nodata;
-use calls::fill_bytes;
+use calls::fill;
 use cells::cell_count;
 use rules::Size;
 use spread::{Rule, Search, begin_cells};
@@ -55,7 +55,7 @@ fn search_amount(
         marks,
         queue,
     );
-    fill_bytes(added, 0);
+    fill(added, 0);
     run_gaining(
         search,
         &bytes,

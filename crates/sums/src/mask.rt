@@ -3,7 +3,7 @@ ghost use Rattle.sums.specs.Mask.{SearchingCell, SearchedCell, SearchingMask, Se
 
 use crate::mask_cell::sum_from;
 use binary32::infinity;
-use calls::fill_cells;
+use calls::fill;
 use cells::cell_count;
 use rules::Size;
 use spread::{begin_clear, is_target};
@@ -90,7 +90,7 @@ pub fn search_mask(
         answer.new distances.new marks.new listed.new met.new queue.new result }
 {
     begin_clear(infinity(), distances, marks);
-    fill_cells(met, 0);
+    fill(met, 0);
     let end = cell_count(size) as u32;
     let mut total: u64 = 0;
     let mut cell: u32 = 0;

@@ -3,7 +3,7 @@ ghost use Rattle.calls.specs.Promise.{slice};
 ghost use Rattle.sums.specs.Promise.{Sums, summed, PromisedGains, SumTargetsWithinTravelDistance};
 
 use crate::amounts::search_amounts;
-use calls::{Answer, Counts, Judged, fill_bytes, fill_cells, fill_floats, judge_8, settle};
+use calls::{Answer, Counts, fill, judge_8, settle};
 use rules::Size;
 
 // The sums once no test refuses: every cell gains the amounts that it is in reach of, and the work buffers are left zero.
@@ -17,23 +17,24 @@ fn sum_targets(
     marks: &mut [u8],
     added: &mut [u8],
     queue: &mut [u32],
-) -> Answer
+) -> Counts
     requires { Sums size times.now amounts.now limit answer.old distances.old marks.old added.old queue.old }
-    ensures { PromisedGains result (slice answer.old answer.new) (slice distances.old distances.new) (slice marks.old marks.new) (slice added.old added.new) (slice queue.old queue.new) (summed size times.now amounts.now limit) }
+    ensures { PromisedGains (Ok result) (slice answer.old answer.new) (slice distances.old distances.new) (slice marks.old marks.new) (slice added.old added.new) (slice queue.old queue.new) (summed size times.now amounts.now limit) }
 {
-    fill_floats(answer, 0.0);
+    fill(answer, 0.0);
     let takes = search_amounts(
         size, times, amounts, limit, answer, distances, marks, added, queue,
     );
     settle(answer);
-    fill_floats(distances, 0.0);
-    fill_bytes(marks, 0);
-    fill_bytes(added, 0);
-    fill_cells(queue, 0);
-    Answer::Accepted(Counts { takes })
+    fill(distances, 0.0);
+    fill(marks, 0);
+    fill(added, 0);
+    fill(queue, 0);
+    Counts { takes }
 }
 
 // The sum of the amounts within reach, for each cell.
+#[tactic(auto, using(crate::proofs::TargetSums::sums_ask, crate::proofs::TargetSums::sums_are), unfolding(rules::specs::Sums::outcome_8))]
 pub fn sum_targets_within_travel_distance(
     times_size: Size,
     times: &[f32],
@@ -48,7 +49,7 @@ pub fn sum_targets_within_travel_distance(
 ) -> Answer
     ensures { SumTargetsWithinTravelDistance times_size times.now amounts_size amounts.now limit (slice answer.old answer.new) (slice distances.old distances.new) (slice marks.old marks.new) (slice added.old added.new) (slice queue.old queue.new) result }
 {
-    let judged = judge_8(
+    judge_8(
         times_size,
         times,
         amounts_size,
@@ -56,11 +57,8 @@ pub fn sum_targets_within_travel_distance(
         limit,
         &[answer.len(), distances.len(), marks.len(), added.len()],
         queue.len(),
-    );
-    match judged {
-        Judged::Stops(refusal) => Answer::Refused(refusal),
-        Judged::Passes => sum_targets(
-            times_size, times, amounts, limit, answer, distances, marks, added, queue,
-        ),
-    }
+    )?;
+    Ok(sum_targets(
+        times_size, times, amounts, limit, answer, distances, marks, added, queue,
+    ))
 }

@@ -4,9 +4,7 @@ ghost use Rattle.sums.specs.Mask.{Given, LeftAnswer, mask_outcome};
 ghost use Rattle.sums.specs.Promise.{PromisedSums, SumWithinTravelDistance};
 
 use crate::mask::{Found, search_mask};
-use calls::{
-    Answer, Counts, Judged, Refusal, fill_bytes, fill_cells, fill_floats, fill_nan, judge_7, settle,
-};
+use calls::{Answer, Counts, Refusal, fill, fill_nan, judge_7, settle};
 use rules::Size;
 
 // Leaves the answer as the searches found it, or all NaN where one was over the budget.
@@ -16,11 +14,11 @@ fn leave_answer(found: Found, answer: &mut [f32]) -> Answer
     match found {
         Found::All(takes) => {
             settle(answer);
-            Answer::Accepted(Counts { takes })
+            Ok(Counts { takes })
         }
         Found::Over(cell) => {
             fill_nan(answer);
-            Answer::Refused(Refusal::OverBudget(cell))
+            Err(Refusal::OverBudget(cell))
         }
     }
 }
@@ -44,7 +42,7 @@ fn sum_mask(
     requires { Given size mask.now times.now values.now answer.old distances.old marks.old listed.old met.old queue.old }
     ensures { PromisedSums result (slice answer.old answer.new) (slice distances.old distances.new) (slice marks.old marks.new) (slice listed.old listed.new) (slice met.old met.new) (slice queue.old queue.new) (mask_outcome size mask.now times.now values.now limit include_adjacent) }
 {
-    fill_floats(answer, 0.0);
+    fill(answer, 0.0);
     let found = search_mask(
         size,
         mask,
@@ -59,15 +57,16 @@ fn sum_mask(
         met,
         queue,
     );
-    fill_floats(distances, 0.0);
-    fill_bytes(marks, 0);
-    fill_cells(listed, 0);
-    fill_cells(met, 0);
-    fill_cells(queue, 0);
+    fill(distances, 0.0);
+    fill(marks, 0);
+    fill(listed, 0);
+    fill(met, 0);
+    fill(queue, 0);
     leave_answer(found, answer)
 }
 
 // The sum of the values within reach of each mask cell.
+#[tactic(auto, using(crate::proofs::WithinSums::mask_given, crate::proofs::WithinSums::mask_outcome_is), unfolding(rules::specs::Sums::outcome_7))]
 pub fn sum_within_travel_distance(
     mask_size: Size,
     mask: &[u8],
@@ -86,7 +85,7 @@ pub fn sum_within_travel_distance(
 ) -> Answer
     ensures { SumWithinTravelDistance mask_size mask.now times_size times.now values_size values.now limit include_adjacent (slice answer.old answer.new) (slice distances.old distances.new) (slice marks.old marks.new) (slice listed.old listed.new) (slice adjacent.old adjacent.new) (slice queue.old queue.new) result }
 {
-    let judged = judge_7(
+    judge_7(
         mask_size,
         mask,
         times_size,
@@ -102,22 +101,19 @@ pub fn sum_within_travel_distance(
             adjacent.len(),
         ],
         queue.len(),
-    );
-    match judged {
-        Judged::Stops(refusal) => Answer::Refused(refusal),
-        Judged::Passes => sum_mask(
-            mask_size,
-            mask,
-            times,
-            values,
-            limit,
-            include_adjacent,
-            answer,
-            distances,
-            marks,
-            listed,
-            adjacent,
-            queue,
-        ),
-    }
+    )?;
+    sum_mask(
+        mask_size,
+        mask,
+        times,
+        values,
+        limit,
+        include_adjacent,
+        answer,
+        distances,
+        marks,
+        listed,
+        adjacent,
+        queue,
+    )
 }

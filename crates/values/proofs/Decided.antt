@@ -6,7 +6,7 @@ use lib.Ieee.{Float}
 use Rattle.rules.specs.declared.Size.{Size}
 use Rattle.rules.specs.Sizes.{Outcome}
 use Rattle.rules.proofs.Decided.{equation_decides}
-use Rattle.calls.specs.declared.answer.Answer.{Answer}
+use Rattle.calls.specs.Answer.{Answer}
 use Rattle.calls.specs.Promise.{slice, Same}
 use Rattle.calls.proofs.Promises.{promise_decides}
 use Rattle.values.specs.Promise.{PromisedValues, ValueAtClosestTarget, ValueAtClosestTravelTarget, ValueAtClosestLessThanTravelTarget}

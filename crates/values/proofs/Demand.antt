@@ -20,7 +20,7 @@ use Rattle.rules.proofs.Inputs.{AcceptedTimes}
 use Rattle.rules.proofs.Accepted.{accepted_5, accepted_6}
 use Rattle.rules.proofs.Nets.{closest_laws, closest_by_time_laws}
 use Rattle.rules.proofs.ClosestTargets.{closest_targets_4, closest_targets_by_time}
-use Rattle.calls.specs.declared.answer.Answer.{Answer}
+use Rattle.calls.specs.Answer.{Answer}
 use Rattle.calls.specs.Answer.{takes, told}
 use Rattle.calls.specs.Promise.{Slice}
 use Rattle.calls.proofs.Promises.{Found, accepted_found}

@@ -12,16 +12,14 @@ use Rattle.binary32.proofs.NotANumber.{infinity_not_nan}
 use Rattle.fifo.specs.Machine.{finish, takes_of}
 use Rattle.fifo.proofs.Ends.{laws_within}
 use Rattle.rules.specs.declared.Size.{Size}
-use Rattle.rules.specs.Sizes.{grid, Judged, Lent, Outcome, accepted, passes, unless, in_bounds, any, below_zero, count}
+use Rattle.rules.specs.Sizes.{grid, Judged, Lent, Outcome, accepted, passes, stops, unless, in_bounds, any, below_zero, count}
 use Rattle.rules.specs.Numbers.{infinity}
 use Rattle.rules.specs.Values.{values_of, closest, closest_by_time, refusals_4, refusals_5, refusals_6}
 use Rattle.rules.proofs.Accepted.{accepted_5, accepted_6}
 use Rattle.rules.proofs.Nets.{closest_laws, closest_by_time_laws}
-use Rattle.calls.specs.declared.answer.Answer.TheVariants.{Accepted, Refused}
-use Rattle.calls.specs.declared.answer.Judged.{Judged as CodeJudged}
-use Rattle.calls.specs.declared.answer.Judged.TheVariants.{Stops}
+use Rattle.calls.specs.Answer.{Ok, Err}
 use Rattle.calls.specs.declared.answer.Refusal.{Refusal}
-use Rattle.calls.specs.Answer.{takes, judged_as}
+use Rattle.calls.specs.Answer.{Answer, refusal_number, takes}
 use Rattle.calls.specs.Given.{lent}
 use Rattle.calls.specs.Promise.{slice}
 use Rattle.calls.proofs.Shapes.{Shaped, shaped}
@@ -46,7 +44,7 @@ pub searched_promised :
     {search : Search} {of : Grids} {answer distances answer₁ distances₁ answer₂ distances₂ : List Float} {marks marks₁ marks₂ queue queue₁ queue₂ : List ℕ} {t : ℕ}
     → Searches search of answer distances marks queue → Spread search of answer distances₁ answer₁ marks₁ queue₁ t
     → answer₂ ≡ answer₁ → distances₂ ≡ replicate (length distances₁) plus_zero → marks₂ ≡ replicate (length marks₁) 0 → queue₂ ≡ replicate (length queue₁) 0
-    → PromisedValues (Accepted (record { takes = t })) (slice answer answer₂) (slice distances distances₂) (slice marks marks₂) (slice queue queue₂) (searched search of)
+    → PromisedValues (Ok (record { takes = t })) (slice answer answer₂) (slice distances distances₂) (slice marks marks₂) (slice queue queue₂) (searched search of)
 unfolding searched
 searched_promised asked found settled distances_zeroed marks_zeroed queue_zeroed =
     let before = asked.spreads.lengths in
@@ -63,13 +61,13 @@ searched_promised asked found settled distances_zeroed marks_zeroed queue_zeroed
 
 -- ---- a refused call
 
-module _ {refusals : Judged} (search : Unit {0} → Outcome) (judged : CodeJudged) (means : judged_as judged ≡ refusals) where
+module _ {refusals : Judged} (search : Unit {0} → Outcome) (refusal : Refusal) (stopped : stops (refusal_number refusal) ≡ refusals) where
   pub values_refused :
-      {refusal : Refusal} → judged ≡ Stops refusal → judged_writes refusals ≡ false → (answer distances : List Float) (marks queue : List ℕ)
-      → PromisedValues (Refused refusal) (slice answer answer) (slice distances distances) (slice marks marks) (slice queue queue) (unless refusals search)
-  values_refused is quiet answer distances marks queue = record {
-    promised = promised_refused search judged means is quiet answer marks queue;
-    distances_left = buffer_untouched search judged means is quiet plus_zero distances;
+      {r : Answer} → r ≡ Err refusal → judged_writes refusals ≡ false → (answer distances : List Float) (marks queue : List ℕ)
+      → PromisedValues r (slice answer answer) (slice distances distances) (slice marks marks) (slice queue queue) (unless refusals search)
+  values_refused gives quiet answer distances marks queue = record {
+    promised = promised_refused search refusal stopped gives quiet answer marks queue;
+    distances_left = buffer_untouched search refusal stopped quiet plus_zero distances;
   }
 
 -- ---- before the search

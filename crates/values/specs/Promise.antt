@@ -5,7 +5,7 @@ use Rattle.fifo.specs.Machine.{finish, takes_of}
 use Rattle.rules.specs.declared.Size.{Size}
 use Rattle.rules.specs.Sizes.{grid, Lent, Outcome, accepted}
 use Rattle.rules.specs.Values.{values_of, outcome_4, outcome_5, outcome_6}
-use Rattle.calls.specs.declared.answer.Answer.{Answer}
+use Rattle.calls.specs.Answer.{Answer}
 use Rattle.calls.specs.Answer.{buffer_after}
 use Rattle.calls.specs.Given.{lent}
 use Rattle.calls.specs.Promise.{Slice, Promised}

@@ -3,11 +3,12 @@ ghost use Rattle.calls.specs.Promise.{slice};
 ghost use Rattle.values.specs.Promise.{ValueAtClosestTarget};
 
 use crate::search::search_values;
-use calls::{Answer, Judged, judge_4};
+use calls::{Answer, judge_4};
 use rules::Size;
 use spread::{Rule, Search};
 
 // The value of the nearest target, for each cell.
+#[tactic(auto, using(crate::proofs::Searching::closest_searches, crate::proofs::Searching::closest_searched), unfolding(rules::specs::Values::outcome_4))]
 pub fn value_at_closest_target(
     targets_size: Size,
     targets: &[u8],
@@ -20,25 +21,20 @@ pub fn value_at_closest_target(
 ) -> Answer
     ensures { ValueAtClosestTarget targets_size targets.now values_size values.now (slice answer.old answer.new) (slice distances.old distances.new) (slice marks.old marks.new) (slice queue.old queue.new) result }
 {
-    let judged = judge_4(
+    judge_4(
         targets_size,
         targets,
         values_size,
         values,
         &[answer.len(), distances.len(), marks.len()],
         queue.len(),
-    );
-    match judged {
-        Judged::Stops(refusal) => Answer::Refused(refusal),
-        Judged::Passes => {
-            let search = Search {
-                rule: Rule::Closest,
-                size: targets_size,
-                limit: 0.0,
-            };
-            search_values(
-                search, targets, values, values, answer, distances, marks, queue,
-            )
-        }
-    }
+    )?;
+    let search = Search {
+        rule: Rule::Closest,
+        size: targets_size,
+        limit: 0.0,
+    };
+    Ok(search_values(
+        search, targets, values, values, answer, distances, marks, queue,
+    ))
 }

@@ -3,7 +3,7 @@ ghost use Rattle.calls.specs.Promise.{slice};
 ghost use Rattle.spread.specs.Promise.{grids};
 ghost use Rattle.values.specs.Promise.{Searches, searched, PromisedValues};
 
-use calls::{Answer, Counts, fill_bytes, fill_cells, fill_floats, settle};
+use calls::{Counts, fill, settle};
 use spread::{Search, spread};
 
 // Finds the values and leaves the work buffers zero. The rule avoids nothing: what is lent for the obstacles is never read,
@@ -17,16 +17,16 @@ pub fn search_values(
     distances: &mut [f32],
     marks: &mut [u8],
     queue: &mut [u32],
-) -> Answer
+) -> Counts
     requires { Searches search (grids targets.now targets.now times.now values.now) answer.old distances.old marks.old queue.old }
-    ensures { PromisedValues result (slice answer.old answer.new) (slice distances.old distances.new) (slice marks.old marks.new) (slice queue.old queue.new) (searched search (grids targets.now targets.now times.now values.now)) }
+    ensures { PromisedValues (Ok result) (slice answer.old answer.new) (slice distances.old distances.new) (slice marks.old marks.new) (slice queue.old queue.new) (searched search (grids targets.now targets.now times.now values.now)) }
 {
     let takes = spread(
         search, targets, targets, times, values, distances, answer, marks, queue,
     );
     settle(answer);
-    fill_floats(distances, 0.0);
-    fill_bytes(marks, 0);
-    fill_cells(queue, 0);
-    Answer::Accepted(Counts { takes })
+    fill(distances, 0.0);
+    fill(marks, 0);
+    fill(queue, 0);
+    Counts { takes }
 }

@@ -2,10 +2,12 @@
 use Rattle.answer.proofs.Sending.{of_number, short_refused, short_refused_at}
 use Rattle.answer.proofs.write.write_refusal.Goals as goal
 
-pub returns-in-Plain : goal.returns-in-Plain
-returns-in-Plain c =
-    of_number c.number_of-numbered.ensures c.in-Plain.is (short_refused c.in-Plain.status c.write_refused.ensures)
+pub returns-in-None : goal.returns-in-None
+returns-in-None c =
+    let numbered = c.from-numbered.result in
+    of_number numbered c.from-numbered.ensures c.in-None.is (short_refused numbered.number c.write_refused.ensures)
 
-pub returns-in-At : goal.returns-in-At
-returns-in-At c =
-    of_number c.number_of-numbered.ensures c.in-At.is (short_refused_at c.in-At.status c.in-At.index c.write_refused_at.ensures)
+pub returns-in-Some : goal.returns-in-Some
+returns-in-Some c =
+    let numbered = c.from-numbered.result in
+    of_number numbered c.from-numbered.ensures c.in-Some.is (short_refused_at numbered.number c.in-Some.index c.write_refused_at.ensures)

@@ -6,7 +6,7 @@ use Rattle.sums.proofs.MaskRuns.{none_searched, next_searched, takes_fit, mask_o
 use Rattle.sums.proofs.mask.search_mask.Goals as goal
 
 pub loop-cell-init : goal.loop-cell-init
-loop-cell-init c = (omega arith, c.cell_count-end.ensures, none_searched c.requires c.infinity.ensures c.begin_clear.ensures c.fill_cells.ensures)
+loop-cell-init c = (omega arith, c.cell_count-end.ensures, none_searched c.requires c.infinity.ensures c.begin_clear.ensures c.fill.ensures)
 
 pub returns-then-found : goal.returns-then-found
 returns-then-found c = let at = c.loop-cell.invariant in mask_over at.2 c.search_cell-found.ensures (rw at.1 at c.loop-cell-test.true) c.if-found.true

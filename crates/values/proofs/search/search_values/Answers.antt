@@ -4,5 +4,5 @@ use Rattle.values.proofs.search.search_values.Goals as goal
 
 pub returns : goal.returns
 returns c =
-    searched_promised c.requires c.spread-takes.ensures c.settle.ensures c.fill_floats.ensures
-    c.fill_bytes.ensures c.fill_cells.ensures
+    searched_promised c.requires c.spread-takes.ensures c.settle.ensures c.fill.ensures
+    c.fill-2.ensures c.fill-3.ensures
