@@ -6,7 +6,7 @@ ghost use Rattle.calls.specs.Numbered.{numbered_as};
 use crate::answer::Refusal;
 
 // A refusal's number, with its index where it has one.
-#[derive(Clone, Copy)]
+#[derive(Clone, Copy, Debug, PartialEq, Eq)]
 pub struct Numbered {
     pub number: u8,
     pub index: Option<u32>,

@@ -2,40 +2,29 @@
 ghost use Rattle.std.specs.Prelude.{◌≡◌, ◌≤◌, IsTrue};
 ghost use Rattle.replay.specs.Buffers.{AllAre, AllHave, SameBits, left_of, dirty_byte, dirty_word, dirty_float};
 ghost use Rattle.replay.specs.Search.{number_of};
-ghost use Rattle.replay.specs.Stored.{clears};
+ghost use Rattle.replay.specs.Stored.{Tells, clears};
 
 use crate::buffers::{left, same_bits};
 use crate::case::Case;
 use crate::kinds::Search;
 use crate::lent::Lent;
 use crate::stored;
-use crate::stored::{Numbered, Told};
-use calls::{Answer, Refusal};
-
-// A refusal by its number, with its index where it has one.
-fn numbered(refusal: Refusal) -> Numbered {
-    let (number, index) = match refusal {
-        Refusal::SizeOutOfBounds => (1, None),
-        Refusal::SizesDiffer => (2, None),
-        Refusal::WrongLength => (3, None),
-        Refusal::BadCellSize => (4, None),
-        Refusal::BadLimit => (5, None),
-        Refusal::NegativeTime(index) => (6, Some(index)),
-        Refusal::OverBudget(index) => (7, Some(index)),
-    };
-    Numbered { number, index }
-}
+use crate::stored::Told;
+use calls::{Answer, Numbered};
 
 // What the library answered, by its numbers.
-fn told_of(answer: Answer) -> Told {
+fn told_of(answer: Answer) -> Told
+    ensures { Tells answer result }
+{
     match answer {
-        Answer::Accepted(counts) => Ok(counts.takes),
-        Answer::Refused(refusal) => Err(numbered(refusal)),
+        Ok(counts) => Ok(counts.takes),
+        Err(refusal) => Err(Numbered::from(refusal)),
     }
 }
 
 // Whether the answer, its cells and each work buffer that the search is lent are as stored.
 pub fn as_stored(answer: Answer, search: Search, case: &Case<'_>, lent: &Lent<'_>) -> bool
+    ensures told { IsTrue result → Tells answer case.now.told }
     ensures cells { IsTrue result → SameBits lent.now.cells.now case.now.bits.now }
     ensures marks { IsTrue result → AllAre lent.now.marks.now (left_of dirty_byte (clears case.now.told)) }
     ensures queue { IsTrue result → AllAre lent.now.queue.now (left_of dirty_word (clears case.now.told)) }

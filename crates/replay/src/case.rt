@@ -44,6 +44,7 @@ pub struct Case<'a> {
     pub values: Grid<'a, f32>,
     pub told: Told,
     pub bits: &'a [u32],
+    ghost few_cells: { length bits.now ≤ most_answer_cells },
 }
 
 // Reads the line of a grid, where the search has it.
@@ -66,7 +67,6 @@ fn grid_if<'a, T: Cell>(
 pub fn read_case<'a>(reader: &mut Reader<'_>, room: &'a mut Room) -> Result<Case<'a>, Malformed>
     ensures goes_on { GoesOn reader.old reader.new }
     ensures further { IfOk result (λ _. reader.old.pos < reader.new.pos) }
-    ensures few_cells { IfOk result (λ case. length case.bits.now ≤ most_answer_cells) }
 {
     let Room {
         targets,

@@ -1,7 +1,4 @@
 // The search of a case, on dirty buffers of the length that the call wants.
-ghost use Rattle.std.specs.Prelude.{◌≤◌, length};
-ghost use Rattle.replay.specs.Buffers.{most_answer_cells};
-
 use crate::buffers::Held;
 use crate::case::Case;
 use crate::grids::{CELLS, SLOTS};
@@ -25,9 +22,7 @@ fn run(search: Search, case: &Case<'_>, lent: &mut Lent<'_>) -> Answer {
 }
 
 // Whether the search agrees with the case.
-fn agrees_in(search: Search, case: &Case<'_>) -> bool
-    requires { length case.now.bits.now ≤ most_answer_cells }
-{
+fn agrees_in(search: Search, case: &Case<'_>) -> bool {
     let n = case.bits.len();
     let mut cells = [f32::dirty(); CELLS];
     let mut distances = [f32::dirty(); CELLS];
@@ -50,9 +45,7 @@ fn agrees_in(search: Search, case: &Case<'_>) -> bool
 }
 
 // Whether the case's search agrees. A search that is not there agrees with nothing.
-pub fn agrees(case: &Case<'_>) -> bool
-    requires { length case.now.bits.now ≤ most_answer_cells }
-{
+pub fn agrees(case: &Case<'_>) -> bool {
     match case.settings.search {
         Some(search) => agrees_in(search, case),
         None => false,

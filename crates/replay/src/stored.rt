@@ -6,16 +6,9 @@ ghost use Rattle.replay.specs.Stored.{clears};
 use crate::buffers::Held;
 use crate::grids;
 use crate::words::{Malformed, Reader};
-use calls::fill_cells;
+use calls::{Numbered, fill};
 
-// Document 01's number of a refusal, with the index where it has one.
-#[derive(Clone, Copy, Debug, PartialEq, Eq)]
-pub struct Numbered {
-    pub number: u8,
-    pub index: Option<u32>,
-}
-
-// An answer: the takes, or the refusal.
+// An answer: the takes, or document 01's number of the refusal.
 pub type Told = Result<u64, Numbered>;
 
 // The number of the refusal for a cell over the budget, which is the last. It alone comes of a call
@@ -75,7 +68,7 @@ fn refused(reader: &mut Reader<'_>, cells: &mut [u32]) -> Result<Told, Malformed
 {
     reader.literal(b"refused ")?;
     let number = reader.decimal(OVER_BUDGET as u64)? as u8;
-    fill_cells(cells, left_in_answer(number));
+    fill(cells, left_in_answer(number));
     let index = index(reader)?;
     reader.literal(b"\n")?;
     Ok(Err(Numbered { number, index }))
