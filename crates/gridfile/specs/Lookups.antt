@@ -3,7 +3,7 @@ use Rattle.std.specs.Prelude.{Bool, false, cond, ◌&&◌, List, ℕ, ◌+◌, l
 use Rattle.rules.specs.Sizes.{any}
 use Rattle.gridfile.specs.Fields.{Part, part, Fields, cut, whole, byte, u16_of, tags}
 use Rattle.gridfile.specs.Request.{Grids, grids_of, same, by_tag}
-pub use Rattle.gridfile.specs.declared.used.Has.{Has}
+pub use Rattle.gridfile.specs.declared.searches.Has.{Has}
 
 -- ---- a field at a place
 

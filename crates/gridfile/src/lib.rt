@@ -18,7 +18,6 @@ mod numbers;
 mod request;
 mod searches;
 mod tags;
-mod used;
 
 pub use answers::{write_accepted, write_refused};
 pub use contents::{copy_bytes, read_floats};

@@ -13,7 +13,8 @@ use std::io::Read;
 const INPUT: usize = LONGEST_FILE + 1;
 
 // Reads until the buffer is full or the input ends, and answers how many bytes it put at the
-// buffer's start. (`read_exact` does not tell how many there were, and `read_to_end` fills a `Vec`.)
+// buffer's start. (std's `read_exact` does not tell how many there were, and `read_to_end` fills a
+// `Vec`. `replay` has the same loop: no library here reads, and a crate for this alone is no plainer.)
 fn read_full<R: Read>(reader: &mut R, buffer: &mut [u8]) -> io::Result<usize>
     ensures fits { IfOk result (λ n. n ≤ length buffer.new) }
     ensures read { IfOk result (λ n. Consumes (R.remaining reader.old) (R.remaining reader.new) (take n buffer.new)) }
