@@ -1,22 +1,20 @@
 -- Sizes: what the tests on them say, and what is known of a size within the bounds. Assumes nothing.
-use mathlib.Core.Path.{◌≡◌, refl, sym, ap, ◌∙◌, subst}
-use mathlib.Core.Bool.{Bool, true, false, ◌&&◌, false≢true}
+use mathlib.Core.Path.{◌≡◌, refl, sym, ap, ◌∙◌}
+use mathlib.Core.Bool.{true, ◌&&◌, false≢true}
 use Prim.Native.Nat.{suc, ◌*◌, ◌^◌, ◌≤◌}
-use native.Mathlib.Nat.{mul-le-mul, lt_of_le_of_lt, le_antisymm, le_refl}
+use native.Mathlib.Nat.{mul-le-mul, lt_of_le_of_lt, le_antisymm}
 use native.Mathlib.Omega.{arith}
 use borrow.Author.Rules.{Fits-under}
-use borrow.Author.Tests.{le-leb, eqb-true, eqb-false}
-use lib.Dec.{T, leb, eqb, leb→le, lit<}
+use lib.Dec.{T, leb, leb→le, lit<}
 use lib.IntN.{ℤ, pos, negsuc, nat_abs, ◌*ℤ◌}
-use lib.Signed.{mag, le_z, non_neg}
+use lib.Signed.{mag, non_neg}
 use mir.Syntax.{Width, w32, w64}
 use mir.Val.{Fits, SFits, bits, to_z, of_z}
 use mir.Facts.{to_z-of_z, and_yes}
 use Rattle.fifo.proofs.Lists.{holds}
-use Rattle.rules.proofs.Tests.{and_then, and_not}
 use Rattle.rules.proofs.Inputs.{cells_at_most}
 use Rattle.rules.specs.declared.Size.{Size}
-use Rattle.rules.specs.Sizes.{side_max, cells_max, side_fits, count, in_bounds, same_number, same_size}
+use Rattle.rules.specs.Sizes.{side_max, cells_max, side_fits, count, in_bounds, same_number}
 use Rattle.cells.specs.Counting.{Countable}
 
 -- ---- a side, and a size, within the bounds
@@ -55,18 +53,6 @@ countable {size} inside = let within = bounded size inside in record { rows_natu
 abbrev pub read : ℤ → ℤ
 read k = to_z w32 (of_z w32 k)
 
--- One side's test.
-module _ {k : ℤ} (fits : SFits w32 k) where
-  pub tested_both : le_z (pos 0) (read k) ≡ true → le_z (read k) (pos side_max) ≡ side_fits k
-  tested_both first = rw (to_z-of_z fits) (and_then (le_z (pos 0) k) (le_z k (pos side_max)) (rw (to_z-of_z fits) at first))
-
-  pub tested_first : le_z (pos 0) (read k) ≡ false → le_z (pos 0) (read k) ≡ side_fits k
-  tested_first first = rw (to_z-of_z fits) (and_not (le_z (pos 0) k) (le_z k (pos side_max)) (rw (to_z-of_z fits) at first))
-
--- What the test of a side answers, said of the side itself.
-pub answered : (k : ℤ) → SFits w32 k → {answer tested : Bool} → answer ≡ side_fits (read k) → answer ≡ tested → side_fits k ≡ tested
-answered k fits means e = rw (← to_z-of_z fits) (sym means ∙ e)
-
 -- A natural number is read back as it is, and so is a side that fits.
 natural_read : {k : ℤ} → SFits w32 k → k ≡ pos (mag k) → read k ≡ pos (mag k)
 natural_read fits natural = to_z-of_z fits ∙ natural
@@ -87,21 +73,6 @@ module _ {k l : ℤ} (k_side : Side k) (l_side : Side l) where
 
   pub product_read : read (read k *ℤ read l) ≡ pos (mag k * mag l)
   product_read = to_z-of_z product_fits ∙ product
-
-module _ (size : Size) where
-  pub rows_refused : side_fits size.rows ≡ false → false ≡ in_bounds size
-  rows_refused rows = rw rows
-
-  pub cols_refused : side_fits size.rows ≡ true → side_fits size.cols ≡ false → false ≡ in_bounds size
-  cols_refused rows cols = rw (rows, cols)
-
-  pub cells_multiplied : side_fits size.rows ≡ true → side_fits size.cols ≡ true → SFits w32 (read size.rows *ℤ read size.cols)
-  cells_multiplied rows cols = product_fits (side size.rows (holds rows)) (side size.cols (holds cols))
-
-  pub cells_tested :
-      side_fits size.rows ≡ true → side_fits size.cols ≡ true
-      → le_z (read (read size.rows *ℤ read size.cols)) (pos cells_max) ≡ in_bounds size
-  cells_tested rows cols = rw (product_read (side size.rows (holds rows)) (side size.cols (holds cols)), rows, cols)
 
 -- A side without its sign.
 module _ {k : ℤ} (k_side : Side k) where
@@ -128,39 +99,9 @@ module _ (size : Size) (sides : Countable size) (rows_fit : SFits w32 size.rows)
 
 -- ---- two sizes
 
--- The code's test that two signed numbers are equal compares their bits.
-abbrev pub bits_equal : ℤ → ℤ → Bool
-bits_equal k l = eqb (of_z w32 k) (of_z w32 l)
-
 -- Where neither of two signed numbers is above the other they are one.
 pub same_number_is : (k l : ℤ) → same_number k l ≡ true → k ≡ l
 same_number_is (pos a) (pos b) e = let both = and_yes (leb a b) (leb b a) (holds e) in ap pos (le_antisymm (leb→le a b both.0) (leb→le b a both.1))
 same_number_is (pos a) (negsuc b) e = absurd (false≢true e)
 same_number_is (negsuc a) (pos b) e = absurd (false≢true e)
 same_number_is (negsuc a) (negsuc b) e = let both = and_yes (leb b a) (leb a b) (holds e) in ap negsuc (le_antisymm (leb→le a b both.1) (leb→le b a both.0))
-
-same_self : (k : ℤ) → same_number k k ≡ true
-same_self (pos a) = rw (le-leb a a (le_refl a))
-same_self (negsuc a) = rw (le-leb a a (le_refl a))
-
--- Two signed numbers have the same bits exactly where neither is above the other. Proof: bits that agree are read back as one number. And
--- where neither is above the other the two are one number, whose bits agree.
-pub same_bits : (k l : ℤ) → SFits w32 k → SFits w32 l → bits_equal k l ≡ same_number k l
-same_bits k l k_fits l_fits = go (bits_equal k l) (same_number k l) refl refl
-  where
-    go : (s t : Bool) → bits_equal k l ≡ s → same_number k l ≡ t → s ≡ t
-    go true true bits number = refl
-    go false false bits number = refl
-    go true false bits number =
-        let one = sym (to_z-of_z k_fits) ∙ ap (to_z w32) (eqb-true (of_z w32 k) (of_z w32 l) bits) ∙ to_z-of_z l_fits in
-        sym (subst (λ (m : ℤ). same_number k m ≡ true) one (same_self k)) ∙ number
-    go false true bits number = absurd (eqb-false (of_z w32 k) (of_z w32 l) bits (ap (of_z w32) (same_number_is k l number)))
-
-module _ (a b : Size) (rows_bits : bits_equal a.rows b.rows ≡ same_number a.rows b.rows) where
-  pub rows_differ : bits_equal a.rows b.rows ≡ false → bits_equal a.rows b.rows ≡ same_size a b
-  rows_differ rows = rows_bits ∙ and_not (same_number a.rows b.rows) (same_number a.cols b.cols) (sym rows_bits ∙ rows)
-
-  pub cols_decide :
-      bits_equal a.rows b.rows ≡ true → bits_equal a.cols b.cols ≡ same_number a.cols b.cols
-      → bits_equal a.cols b.cols ≡ same_size a b
-  cols_decide rows cols_bits = cols_bits ∙ and_then (same_number a.rows b.rows) (same_number a.cols b.cols) (sym rows_bits ∙ rows)

@@ -10,36 +10,47 @@ use lib.Arith.{digits_div, digits_mod}
 use lib.IntN.{ℤ, pos}
 use lib.ListN.{length, replicate, length-replicate}
 use lib.Signed.{mag}
+use Rattle.std.specs.Prelude.{Option, Some, None, option_to_list}
 use Rattle.rules.specs.declared.Size.{Size}
-use Rattle.rules.specs.Cells.{index, row_of, col_of}
+use Rattle.rules.specs.Cells.{index, row_of, col_of, neighbour}
 use Rattle.rules.proofs.Decided.{equation_decides}
-use Rattle.cells.specs.Neighbours.{Place}
-use Rattle.cells.specs.Storing.{Neighbour, At, Outside, InGrid, cells_at, Leads, FromPlace, LeadsBy}
+use Rattle.cells.specs.Neighbours.{CellOf, Place, place_of}
+use Rattle.cells.specs.Storing.{InGrid, Leads}
 use Rattle.cells.specs.Interior.{SaysInterior}
-use Rattle.cells.specs.Ring.{Ring, Taken, contents, RingGood, SaysEmpty, NewRing, Pushed, Took}
+use Rattle.cells.specs.Ring.{Ring, contents, RingGood, SaysEmpty, NewRing, Pushed, Took}
 use Rattle.cells.proofs.Edges.{inside}
 
 -- ---- the neighbour at one offset
 
-tells_one : (a b : Neighbour) → cells_at a ≡ cells_at b → a ≡ b
-tells_one (At a) (At b) same = cc
-tells_one (At a) Outside same = cc
-tells_one Outside (At b) same = cc
-tells_one Outside Outside same = refl
+same_list : (a b : Option ℕ) → option_to_list a ≡ option_to_list b → a ≡ b
+same_list (Some a) (Some b) same = cc
+same_list (Some a) None same = cc
+same_list None (Some b) same = cc
+same_list None None same = refl
 
--- `neighbour_at`. Proof: the row and the column are those of the cell at their index.
-pub leads_decides : {size : Size} {row col down across : ℤ} {a b : Neighbour} → InGrid size row col → Leads size row col down across a → Leads size row col down across b → a ≡ b
-leads_decides {size} {row} {col} {a = a} {b} place p q =
-    let row_in = inside size.rows row place.row_in in
-    let col_in = inside size.cols col place.col_in in
-    let u = index size (mag row) (mag col) in
-    let at_row : row ≡ pos (row_of size u) = row_in.is_mag ∙ ap pos (sym (digits_div (mag row) col_in.less)) in
-    let at_col : col ≡ pos (col_of size u) = col_in.is_mag ∙ ap pos (sym (digits_mod (mag row) col_in.less)) in
-    tells_one a b (equation_decides (p.leads u at_row at_col) (q.leads u at_row at_col))
+-- `neighbour_at`. Proof: the place is that of the cell at its index.
+pub leads_decides : {size : Size} {place : Place} {offset : List ℤ} {a b : Option ℕ} → InGrid size place → Leads size place offset a → Leads size place offset b → a ≡ b
+leads_decides {size} {place} {a = a} {b} stands p q =
+    let row_in = inside size.rows place.row stands.row_in in
+    let col_in = inside size.cols place.col stands.col_in in
+    let u = index size (mag place.row) (mag place.col) in
+    let at_row : place.row ≡ pos (row_of size u) = row_in.is_mag ∙ ap pos (sym (digits_div (mag place.row) col_in.less)) in
+    let at_col : place.col ≡ pos (col_of size u) = col_in.is_mag ∙ ap pos (sym (digits_mod (mag place.row) col_in.less)) in
+    let at : place ≡ place_of size u = λ i. record { row = at_row i; col = at_col i } in
+    same_list a b (equation_decides (p.leads u at) (q.leads u at))
 
--- `nth_neighbour`.
-pub leads_by_decides : {size : Size} {place : Place} {i : ℕ} {a b : Neighbour} → FromPlace size place i → LeadsBy size place i a → LeadsBy size place i b → a ≡ b
-leads_by_decides {a = a} {b} from p q = let (u, cell, is) = from.cell in tells_one a b (equation_decides (p.leads u cell is) (q.leads u cell is))
+-- From the place of a cell of a grid, what is said of such cells alone is enough.
+pub record FromPlace (size : Size) (place : Place) : Type 0 where
+  pub cell : (u : ℕ) × CellOf size u × (place ≡ place_of size u)
+
+pub record LeadsBy (size : Size) (place : Place) (offset : List ℤ) (there : Option ℕ) : Type 0 where
+  pub leads : (u : ℕ) → CellOf size u → place ≡ place_of size u → option_to_list there ≡ neighbour size u offset
+
+pub leads_by : {size : Size} {place : Place} {offset : List ℤ} {there : Option ℕ} → Leads size place offset there → LeadsBy size place offset there
+leads_by to = record { leads = λ u cell is. to.leads u is }
+
+pub leads_by_decides : {size : Size} {place : Place} {offset : List ℤ} {a b : Option ℕ} → FromPlace size place → LeadsBy size place offset a → LeadsBy size place offset b → a ≡ b
+leads_by_decides {a = a} {b} from p q = let (u, cell, is) = from.cell in same_list a b (equation_decides (p.leads u cell is) (q.leads u cell is))
 
 -- `is_interior`.
 pub says_interior_decides : {size : Size} {u : ℕ} {a b : Bool} → SaysInterior size u a → SaysInterior size u b → a ≡ b
@@ -83,6 +94,6 @@ pushed_decides p q = record { waiting = equation_decides p.added q.added; slots 
 
 -- `take`: the cell and those that still wait. It writes to no slot.
 pub took_decides :
-    {slots : List ℕ} {ring : Ring} {a b : Taken} → Took slots ring a → Took slots ring b
-    → (a.cell ≡ b.cell) × (contents slots a.ring ≡ contents slots b.ring)
+    {slots : List ℕ} {ring ring₁ ring₂ : Ring} {a b : ℕ} → Took slots ring a ring₁ → Took slots ring b ring₂
+    → (a ≡ b) × (contents slots ring₁ ≡ contents slots ring₂)
 took_decides p q = let same = sym p.split ∙ q.split in (cc, cc)

@@ -2,7 +2,7 @@
 -- natural number, whose index is below the number of cells. Assumes nothing.
 use mathlib.Core.Path.{◌≡◌, refl, ap, ◌∙◌}
 use mathlib.Core.Bool.{Bool, true, false, cond}
-use mathlib.Core.List.{List, [], ◌∷◌}
+use mathlib.Core.List.{List, []}
 use Prim.Native.Nat.{ℕ, zero, suc, ◌+◌, ◌-◌, ◌*◌, ◌/◌, ◌≤◌, ◌<◌}
 use native.Mathlib.Nat.{lt_of_lt_of_le, mul-zero, mod-lt, div-lt_iff_lt-mul, div-add-mod'}
 use native.Mathlib.Omega.{arith}
@@ -18,7 +18,7 @@ use Rattle.rules.specs.declared.Size.{Size}
 use Rattle.rules.specs.Sizes.{cells_max, count}
 use Rattle.rules.specs.Cells.{offsets, index, row_of, col_of, within}
 use Rattle.cells.specs.Neighbours.{CellOf, Place, place_of}
-use Rattle.cells.specs.Storing.{Step, stay, on, back}
+use Rattle.cells.specs.Storing.{Step, stay, on, back, row_part, col_part, AllSteps, none, more}
 use Rattle.rules.proofs.Neighbours.{within_below}
 use Rattle.rules.proofs.Tests.{and_then, and_not}
 use Rattle.cells.proofs.Bounds.{Side, Bounded, bounded, read, side_read, side_same, cast_is, product_fits, product_read}
@@ -51,18 +51,6 @@ module _ {end k : ℤ} (end_fits : SFits w32 end) (k_fits : SFits w32 k) where
   inside_first first = rw (to_z-of_z k_fits) (and_not (le_z (pos 0) k) (lt_z k end) (rw (to_z-of_z k_fits) at first))
 
 -- ---- the steps of a table
-
--- An offset's part for rows, and for columns. One that is not there stays.
-abbrev pub row_part : List ℤ → ℤ
-row_part offset = get_or offset 0 (pos 0)
-
-abbrev pub col_part : List ℤ → ℤ
-col_part offset = get_or offset 1 (pos 0)
-
--- Each offset of a table is a step for rows and one for columns.
-pub data AllSteps : List (List ℤ) → Type 0 where
-  none : AllSteps []
-  more : {down across : ℤ} {table : List (List ℤ)} → Step down → Step across → AllSteps table → AllSteps ((down ∷ across ∷ []) ∷ table)
 
 -- Then so is the i-th. Past the table both parts stay.
 pub step_at : {table : List (List ℤ)} → AllSteps table → (i : ℕ) → Step (row_part (get_or table i [])) × Step (col_part (get_or table i []))

@@ -2,7 +2,6 @@
 use mathlib.Core.Path.{◌≡◌, refl, sym, ap, ◌∙◌}
 use mathlib.Core.Bool.{Bool, true, false, cond, false≢true}
 use mathlib.Core.List.{List, [], ◌∷◌}
-use mathlib.Core.Logic.{inl, inr, ⊎_elim}
 use Prim.Native.Nat.{ℕ, suc, ◌+◌, ◌-◌, ◌*◌, ◌<◌}
 use native.Mathlib.Nat.{add-zero, suc-mul, lt_irrefl}
 use native.Mathlib.Numerals.{add-one}
@@ -11,20 +10,19 @@ use borrow.Author.Tests.{ltb-true}
 use lib.Dec.{ltb, lt→ltb}
 use lib.Ieee.Bits.{is_true}
 use lib.IntN.{ℤ, pos, negsuc, ◌+ℤ◌}
-use lib.ListN.{length, get_or, set, replicate}
+use lib.ListN.{length, get_or, set}
 use lib.Seq.{sets}
 use lib.Signed.{mag, lt_z}
 use mir.Syntax.{w32}
 use mir.Val.{SFits}
-use Rattle.fifo.proofs.Lists.{same_or_not}
 use Rattle.rules.specs.declared.Size.{Size}
 use Rattle.rules.specs.Cells.{offsets, index, row_of, col_of, within, neighbour, neighbours, straight_neighbours}
 use Rattle.cells.specs.Neighbours.{Neighbours, CellOf, Place, place_of, Lists}
-use Rattle.cells.specs.Storing.{Step, stay, on, back, Stepping}
+use Rattle.cells.specs.Storing.{Step, stay, on, back, row_part, col_part, Stepping}
 use Rattle.cells.specs.Interior.{Between, Inner, SaysInner, Interior, SaysInterior}
 use Rattle.cells.proofs.Bounds.{Side, side, Bounded, bounded, sides_fit, read, side_read, side_same}
 use Rattle.cells.proofs.Edges.{Inside, inside, between, inside_is_side, step_fits, stepped, row_between, col_between, place_row, place_col}
-use Rattle.cells.proofs.Edges.{row_part, col_part, step_at, steps}
+use Rattle.cells.proofs.Edges.{step_at, steps}
 use Rattle.cells.proofs.NeighbourArray.{Filled, none_filled, more_filled, all_filled, lists_decided}
 
 -- ---- the test of the code
@@ -141,9 +139,9 @@ module _ {size : Size} {u : ℕ} (interior : Interior size u) (i : ℕ) where
 
   -- The same as the code has them.
   module _ {place : Place} (is : place ≡ place_of size u) where
-    pub steps_from : Stepping size place.row place.col (row_part offset) (col_part offset)
+    pub steps_from : Stepping size place offset
     steps_from = record {
-      place = rw is (record { bounds = interior.cell.bounds; row_in = row_between size bounds u interior.cell.below; col_in = col_between size bounds u interior.cell.below });
+      stands = rw is (record { bounds = interior.cell.bounds; row_in = row_between size bounds u interior.cell.below; col_in = col_between size bounds u interior.cell.below });
       row_step = (step_at steps i).0;
       col_step = (step_at steps i).1;
     }
@@ -162,31 +160,30 @@ module _ {size : Size} {u : ℕ} (interior : Interior size u) where
   unfolding neighbours
   four_straight = rw (one_inside interior 0, one_inside interior 1, one_inside interior 2, one_inside interior 3)
 
-  pub none_inside : Filled size u (replicate 8 0) 4 0 0
-  none_inside = let none = none_filled size u in record { tried = none.tried; cells_are = none.cells_are; found_is = none.found_is; few = none.few; straight_is = λ late. four_straight }
-
   -- One offset more: it leads to a cell, which stands behind the others.
   pub one_more_inside :
-      {cells : List ℕ} {i v : ℕ} → Filled size u cells 4 i i → i < 8 → v ∷ [] ≡ neighbour size u (get_or offsets i []) → Filled size u (set cells i v) 4 (i + 1) (i + 1)
+      {cells : List ℕ} {i v : ℕ} → Filled size u cells i i → i < 8 → v ∷ [] ≡ neighbour size u (get_or offsets i []) → Filled size u (set cells i v) (i + 1) (i + 1)
   one_more_inside {cells} {i} {v} before less leads =
       let here = neighbour size u (get_or offsets i []) in
       let stored : set cells i v ≡ sets cells i here = rw (← leads) in
       let counted : i + 1 ≡ i + length here = rw (← leads) in
-      more_filled size u before less stored counted (⊎_elim (λ now. inl (now, sym now)) (λ other. inr (other, refl)) (same_or_not (i + 1) 4))
+      more_filled size u before less stored counted
 
-  pub all_inside : {cells : List ℕ} {i : ℕ} → i ≡ 8 → Filled size u cells 4 i i → Lists size u (record { cells = cells; straight = 4; count = 8 })
-  all_inside all filled = all_filled interior.cell (rw all at filled)
+  pub all_inside : {cells : List ℕ} {i : ℕ} → i ≡ 8 → Filled size u cells i i → Lists size u (record { cells = cells; straight = 4; count = 8 })
+  all_inside {cells} all filled =
+      let eight : Filled size u cells 8 8 = rw all at filled in
+      all_filled interior.cell eight.cells_are four_straight eight.found_is (omega arith)
 
 -- Whatever lists the neighbours of a cell at no edge has eight, four of them straight. Proof: an array that is filled with them lists them, and no
 -- other struct does.
 pub eight_around : {size : Size} {u : ℕ} → Interior size u → {near : Neighbours} → Lists size u near → (near.straight ≡ 4) × (near.count ≡ 8)
 eight_around {size} {u} interior lists =
-    let filled = one 7 (omega arith) (one 6 (omega arith) (one 5 (omega arith) (one 4 (omega arith) (one 3 (omega arith) (one 2 (omega arith) (one 1 (omega arith) (one 0 (omega arith) (none_inside interior)))))))) in
-    let same = lists_decided lists (all_filled interior.cell filled) in
+    let filled = one 7 (omega arith) (one 6 (omega arith) (one 5 (omega arith) (one 4 (omega arith) (one 3 (omega arith) (one 2 (omega arith) (one 1 (omega arith) (one 0 (omega arith) (none_filled size u)))))))) in
+    let same = lists_decided lists (all_inside interior refl filled) in
     (ap (λ n. n.straight) same, ap (λ n. n.count) same)
   where
     there : ℕ → ℕ
     there i = index size (mag (pos (row_of size u) +ℤ row_part (get_or offsets i []))) (mag (pos (col_of size u) +ℤ col_part (get_or offsets i [])))
 
-    one : (i : ℕ) → i < 8 → {cells : List ℕ} → Filled size u cells 4 i i → Filled size u (set cells i (there i)) 4 (i + 1) (i + 1)
+    one : (i : ℕ) → i < 8 → {cells : List ℕ} → Filled size u cells i i → Filled size u (set cells i (there i)) (i + 1) (i + 1)
     one i less filled = one_more_inside interior filled less (sym (one_inside interior i))

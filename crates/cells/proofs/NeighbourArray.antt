@@ -1,10 +1,10 @@
 -- The array that the code fills, and the struct that it becomes: they hold the neighbours in trying order, and nothing else.
 -- Assumes nothing.
 use mathlib.Core.Path.{◌≡◌, refl, sym, ap, ◌∙◌}
-use mathlib.Core.Logic.{◌⊎◌, inl, inr}
+use mathlib.Core.Logic.{inl, inr}
 use mathlib.Core.List.{List, [], ◌∷◌, ◌++◌, append_assoc}
 use Prim.Native.Nat.{ℕ, zero, suc, ◌+◌, ◌-◌, ◌≤◌, ◌<◌, zero-le}
-use native.Mathlib.Nat.{lt_irrefl, lt_of_le_of_lt}
+use native.Mathlib.Nat.{lt_of_le_of_lt}
 use native.Mathlib.Omega.{arith}
 use lib.ListN.{length, get_or, take, drop, replicate, length-append, length-replicate, length-drop, take-append-drop}
 use lib.Seq.{sets, sets-eq, take-append_seam, drop-append_seam, drop-append-add, length-take-le, drop-drop}
@@ -14,7 +14,7 @@ use Rattle.rules.specs.declared.Size.{Size}
 use Rattle.rules.specs.Sizes.{count}
 use Rattle.rules.specs.Cells.{offsets, neighbour, neighbours, straight_neighbours, diagonal_neighbours}
 use Rattle.cells.specs.Neighbours.{Neighbours, Lists, CellOf}
-use Rattle.cells.proofs.NeighbourLists.{neighbours_split, one_more, at_most_one}
+use Rattle.cells.proofs.NeighbourLists.{neighbours_split, one_more, at_most_one, at_most_each}
 
 -- ---- the array that is filled
 
@@ -44,60 +44,37 @@ padded_more found more most =
 
 -- ---- the loop
 
--- After i offsets: what was found among them is in the array, and counted; four offsets on the count was recorded.
-pub record Filled (size : Size) (u : ℕ) (cells : List ℕ) (straight found i : ℕ) : Type 0 where
+-- After i offsets what was found among them is in the array, and counted.
+pub record Filled (size : Size) (u : ℕ) (cells : List ℕ) (found i : ℕ) : Type 0 where
   pub tried : i ≤ 8
   pub cells_are : cells ≡ padded (neighbours size u (take i offsets))
   pub found_is : found ≡ length (neighbours size u (take i offsets))
   pub few : found ≤ i
-  pub straight_is : 4 ≤ i → straight ≡ length (straight_neighbours size u)
-
--- The count is recorded where four offsets have been tried, and otherwise stays.
-abbrev pub Recorded : ℕ → ℕ → ℕ → ℕ → Type 0
-Recorded tried found old new = ((tried ≡ 4) × (new ≡ found)) ⊎ ((tried ≡ 4 → ⊥) × (new ≡ old))
 
 module _ (size : Size) (u : ℕ) where
-  pub none_filled : Filled size u (zeros 8) 0 0 0
+  pub none_filled : Filled size u (zeros 8) 0 0
   unfolding neighbours
-  none_filled =
-      record {
-        tried = omega arith;
-        cells_are = refl;
-        found_is = refl;
-        few = omega arith;
-        straight_is = λ late. absurd (lt_irrefl 0 (omega arith));
-      }
-
-  recorded :
-      (i : ℕ) {found old new : ℕ} → (4 ≤ i → old ≡ length (straight_neighbours size u)) → found ≡ length (neighbours size u (take (i + 1) offsets))
-      → Recorded (i + 1) found old new → 4 ≤ i + 1 → new ≡ length (straight_neighbours size u)
-  recorded i before found_is (inl now) late = now.1 ∙ found_is ∙ ap (λ (n : ℕ). length (neighbours size u (take n offsets))) now.0
-  recorded i before found_is (inr other) late = let still_late : 4 ≤ i = le_of_other other.0 late in other.1 ∙ before still_late
-    where
-      le_of_other : (i + 1 ≡ 4 → ⊥) → 4 ≤ i + 1 → 4 ≤ i
-      le_of_other differs most = omega arith
+  none_filled = record { tried = omega arith; cells_are = refl; found_is = refl; few = omega arith }
 
   -- One offset more. Proof: the array behind those that were found is 0, so that storing there appends.
   pub more_filled :
-      {cells cells' : List ℕ} {straight found i found' straight' : ℕ} → Filled size u cells straight found i → i < 8
+      {cells cells' : List ℕ} {found i found' : ℕ} → Filled size u cells found i → i < 8
       → cells' ≡ sets cells found (neighbour size u (get_or offsets i [])) → found' ≡ found + length (neighbour size u (get_or offsets i []))
-      → Recorded (i + 1) found' straight straight' → Filled size u cells' straight' found' (i + 1)
-  more_filled {cells} {found = found} {i = i} {found' = found'} before less stored counted at_four =
+      → Filled size u cells' found' (i + 1)
+  more_filled {cells} {found = found} {i = i} {found' = found'} before less stored counted =
       let so_far = neighbours size u (take i offsets) in
       let here = neighbour size u (get_or offsets i []) in
       let few = before.few in
       let one = at_most_one size u (get_or offsets i []) in
       let so_far_is = before.found_is in
-      let found'_is : found' ≡ length (neighbours size u (take (i + 1) offsets)) = counted ∙ rw (one_more size u offsets i less, length-append, so_far_is) in
       record {
         tried = omega arith;
         cells_are =
             stored
             ∙ ap (λ (l : List ℕ). sets l found here) before.cells_are ∙ ap (λ (k : ℕ). sets (padded so_far) k here) so_far_is
             ∙ padded_more so_far here (omega arith) ∙ ap padded (sym (one_more size u offsets i less));
-        found_is = found'_is;
+        found_is = counted ∙ rw (one_more size u offsets i less, length-append, so_far_is);
         few = omega arith;
-        straight_is = recorded i before.straight_is found'_is at_four;
       }
 
 -- ---- the struct
@@ -123,19 +100,18 @@ module _ (a b rest : List ℕ) where
   behind_parts : drop (length (a ++ b)) (a ++ b ++ rest) ≡ rest
   behind_parts = drop-append_seam (a ++ b) rest
 
--- Where all eight offsets have been tried, the struct lists the neighbours. Proof: the diagonal ones follow the straight ones, and behind
--- them the array is 0. The counts are the lengths up to those ends.
+-- Where the neighbours at all eight offsets are in the array, and counted, the struct lists them. Proof: the diagonal ones follow the straight ones,
+-- and behind them the array is 0. The counts are the lengths up to those ends.
 pub all_filled :
-    {size : Size} {u : ℕ} {cells : List ℕ} {straight found : ℕ} → CellOf size u → Filled size u cells straight found 8
+    {size : Size} {u : ℕ} {cells : List ℕ} {straight found : ℕ} → CellOf size u → cells ≡ padded (neighbours size u offsets)
+    → straight ≡ length (straight_neighbours size u) → found ≡ length (neighbours size u offsets) → found ≤ 8
     → Lists size u (record { cells = cells; straight = straight; count = found })
-all_filled {size} {u} {cells} {straight} {found} cell filled =
+all_filled {size} {u} {cells} {straight} {found} cell filled straight_is found_filled few =
     let a = straight_neighbours size u in
     let b = diagonal_neighbours size u in
     let rest = zeros (8 - length (a ++ b)) in
-    let cells_are : cells ≡ a ++ b ++ rest = filled.cells_are ∙ ap padded (neighbours_split size u) in
-    let found_is : found ≡ length (a ++ b) = filled.found_is ∙ ap length (neighbours_split size u) in
-    let straight_is : straight ≡ length a = filled.straight_is (omega arith) in
-    let few = filled.few in
+    let cells_are : cells ≡ a ++ b ++ rest = filled ∙ ap padded (neighbours_split size u) in
+    let found_is : found ≡ length (a ++ b) = found_filled ∙ ap length (neighbours_split size u) in
     let long : length (a ++ b) ≡ length a + length b = length-append a b in
     record {
       straight_ones = rw (straight_is, cells_are) (first_part a b rest);
@@ -143,12 +119,30 @@ all_filled {size} {u} {cells} {straight} {found} cell filled =
       rest = rw (found_is, cells_are) (behind_parts a b rest);
       eight = rw cells_are (padded_long (a ++ b) (omega arith));
       straight_most = omega arith;
-      count_most = omega arith;
+      count_most = few;
       inside =
           let all = neighbours size u offsets in
           let below = padded_below (count size) (lt_of_le_of_lt zero-le cell.below) all (neighbours_inside size u offsets) (8 - length all) in
-          λ k. rw filled.cells_are (below k);
+          λ k. rw filled (below k);
     }
+
+-- Where they were stored in two parts, the straight ones and then the diagonal ones, the array holds them all.
+pub both_stored :
+    {size : Size} {u : ℕ} {cells : List ℕ} {straight : ℕ} {near : Neighbours} → CellOf size u
+    → cells ≡ sets (zeros 8) 0 (straight_neighbours size u) → straight ≡ 0 + length (straight_neighbours size u)
+    → near.cells ≡ sets cells straight (diagonal_neighbours size u) → near.count ≡ straight + length (diagonal_neighbours size u) → near.straight ≡ straight
+    → Lists size u near
+both_stored {size} {u} {straight = straight} {near} cell first straight_counted then found_is stays =
+    let a = straight_neighbours size u in
+    let b = diagonal_neighbours size u in
+    let straight_is : straight ≡ length a = omega arith in
+    let few_straight = at_most_each size u (take 4 offsets) in
+    let few_diagonal = at_most_each size u (drop 4 offsets) in
+    let long : length (a ++ b) ≡ length a + length b = length-append a b in
+    let all : neighbours size u offsets ≡ a ++ b = neighbours_split size u in
+    let cells_are : near.cells ≡ padded (a ++ b) =
+    then ∙ rw (first, straight_is) (ap (λ l. sets l (length a) b) (padded_more [] a (omega arith))) ∙ padded_more a b (omega arith) in
+    all_filled cell (cells_are ∙ ap padded (sym all)) (stays ∙ straight_is) (rw (all, long) (rw (← straight_is) found_is)) (omega arith)
 
 -- ---- what the struct says
 

@@ -5,12 +5,12 @@ use mathlib.Core.List.{List, [], ◌∷◌, ◌++◌, append-nil, append_assoc}
 use Prim.Native.Nat.{ℕ, ◌+◌, ◌≤◌, ◌<◌}
 use native.Mathlib.Omega.{arith}
 use lib.IntN.{ℤ, pos, ◌+ℤ◌}
-use lib.ListN.{length, get_or, take, drop}
+use lib.ListN.{length, get_or, take, drop, length-append}
 use lib.Signed.{mag}
 use Rattle.fifo.proofs.Lists.{take_more}
 use Rattle.rules.specs.declared.Size.{Size}
 use Rattle.rules.specs.Cells.{offsets, index, row_of, col_of, within, neighbour, neighbours, straight_neighbours, diagonal_neighbours}
-use Rattle.cells.proofs.Edges.{row_part, col_part}
+use Rattle.cells.specs.Storing.{row_part, col_part}
 
 module _ (size : Size) (u : ℕ) where
   -- The place at an offset.
@@ -47,3 +47,12 @@ module _ (size : Size) (u : ℕ) where
       go : (test : Bool) → length (cond test (index size (mag (to_row offset)) (mag (to_col offset)) ∷ []) []) ≤ 1
       go true = omega arith
       go false = omega arith
+
+  -- Of some offsets each leads to one cell at most.
+  pub at_most_each : (table : List (List ℤ)) → length (neighbours size u table) ≤ length table
+  unfolding neighbours
+  at_most_each [] = omega arith
+  at_most_each (offset ∷ table) =
+      let one = at_most_one offset in
+      let rest = at_most_each table in
+      rw (length-append (neighbour size u offset) (neighbours size u table)) (omega arith)

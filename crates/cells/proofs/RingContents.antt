@@ -1,6 +1,6 @@
 -- The ring's operations, said of its contents: a push adds at the end, a take splits off the first, and no cell waits where the head is
 -- the tail. Two case lemmas carry the arithmetic: whether `next` wraps, and whether the way from the head to the tail does. Assumes nothing.
-use mathlib.Core.Path.{◌≡◌, refl, ap, ◌∙◌}
+use mathlib.Core.Path.{◌≡◌, refl, sym, ap, ◌∙◌}
 use mathlib.Core.Logic.{◌⊎◌, inl, inr}
 use mathlib.Core.List.{List, [], ◌∷◌, ◌++◌}
 use Prim.Native.Nat.{ℕ, zero, suc, ◌+◌, ◌-◌, ◌≤◌, ◌<◌}
@@ -173,9 +173,7 @@ module _ (slots : List ℕ) (ring : Ring) where
 
   -- A take splits off the first. Proof: something waits, so the gap is not 0 and the list begins with the head's slot. From the next
   -- slot the gap is one less.
-  pub take_splits :
-      HasCell slots ring
-      → Took slots ring (record { cell = get_or slots ring.head 0; ring = record { head = next (length slots) ring.head; tail = ring.tail } })
+  pub take_splits : HasCell slots ring → Took slots ring (get_or slots ring.head 0) (record { head = next (length slots) ring.head; tail = ring.tail })
   unfolding contents
   take_splits has =
       let head_in = has.good.head_in in
@@ -185,6 +183,10 @@ module _ (slots : List ℕ) (ring : Ring) where
         good = record { head_in = next_in head_in (next_is (length slots) ring.head head_in); tail_in = tail_in };
         split = from_shrunk slots ring.head ring.tail head_in tail_in some;
       }
+
+  -- So the first is what the head's slot holds.
+  pub first_at_head : HasCell slots ring → get_or slots ring.head 0 ≡ get_or (contents slots ring) 0 0
+  first_at_head has = sym (ap (λ cells. get_or cells 0 0) (take_splits has).split)
 
 -- A new ring is empty, in whatever slots there are.
 pub new_empty : NewRing (record { head = 0; tail = 0 })

@@ -1,7 +1,6 @@
 -- The ring: cells that wait, first in first out, in lent slots. Definitions only.
 use Rattle.std.specs.Prelude.{◌≡◌, Bool, true, false, cond, List, [], ◌∷◌, ◌++◌, ℕ, zero, suc, ◌+◌, ◌-◌, ◌%◌, ◌<◌, leb, length, get_or}
 pub use Rattle.cells.specs.declared.ring.Ring.{Ring}
-pub use Rattle.cells.specs.declared.ring.Taken.{Taken}
 
 -- The slot after slot i, of len slots in a ring.
 abbrev pub next : ℕ → ℕ → ℕ
@@ -56,6 +55,6 @@ pub record Pushed (slots : List ℕ) (ring : Ring) (cell : ℕ) (slots' : List �
   pub added : contents slots' ring' ≡ contents slots ring ++ (cell ∷ [])
 
 -- A take splits off the first cell.
-pub record Took (slots : List ℕ) (ring : Ring) (taken : Taken) : Type 0 where
-  pub good : RingGood slots taken.ring
-  pub split : contents slots ring ≡ taken.cell ∷ contents slots taken.ring
+pub record Took (slots : List ℕ) (ring : Ring) (cell : ℕ) (ring' : Ring) : Type 0 where
+  pub good : RingGood slots ring'
+  pub split : contents slots ring ≡ cell ∷ contents slots ring'

@@ -3,7 +3,7 @@ ghost use Rattle.std.specs.Prelude.{◌≡◌};
 ghost use Rattle.std.specs.Int.Signed.{mag};
 ghost use Rattle.rules.specs.Cells as Cells;
 ghost use Rattle.cells.specs.Neighbours.{CellOf, place_of, Lists};
-ghost use Rattle.cells.specs.Storing.{InGrid, Stepping, Leads, FromPlace, LeadsBy, Storing, Stored};
+ghost use Rattle.cells.specs.Storing.{InGrid, Stepping, Leads, Storing, Stored};
 ghost use Rattle.cells.specs.Interior.{Interior, Between, SaysInner, SaysInterior};
 
 use rules::Size;
@@ -19,6 +19,9 @@ pub const OFFSETS: [[i32; 2]; 8] = [
     [1, -1], // below left
     [-1, -1], // above left
 ];
+
+// How many of them lead straight: the first. The others lead diagonally.
+pub const STRAIGHT: usize = 4;
 
 // The neighbours that there are: up to `straight` those to the sides, below and above, up to `count` the
 // diagonal ones.
@@ -36,14 +39,6 @@ fn inside(end: i32, k: i32) -> bool
     0 <= k && k < end
 }
 
-// The index of the cell at a row and a column.
-fn index(size: Size, row: i32, col: i32) -> u32
-    requires { InGrid size row col }
-    ensures { result ≡ Cells.index size (mag row) (mag col) }
-{
-    (row * size.cols + col) as u32
-}
-
 // The row and the column of a cell.
 #[derive(Clone, Copy)]
 pub struct Place {
@@ -57,66 +52,48 @@ pub fn place_of(size: Size, cell: u32) -> Place
     ensures { result ≡ place_of size cell }
 {
     let cols = size.cols as u32;
-    let above = cell / cols;
-    let row = above as i32;
-    let col = (cell - above * cols) as i32;
-    Place { row, col }
+    let row = cell / cols;
+    Place {
+        row: row as i32,
+        col: (cell - row * cols) as i32,
+    }
 }
 
-// What stands at an offset from a cell: another cell, or nothing where the grid ends.
-#[derive(Clone, Copy)]
-pub enum Neighbour {
-    At(u32),
-    Outside,
+// The index of the cell at a place.
+fn index(size: Size, place: Place) -> u32
+    requires { InGrid size place }
+    ensures { result ≡ Cells.index size (mag place.row) (mag place.col) }
+{
+    (place.row * size.cols + place.col) as u32
 }
 
-// The neighbour one step from a row and a column. Both edges are tested before the row and the column
+// The cell at an offset from a place, unless the grid ends before. Both edges are tested before the row and the column
 // become an index.
-pub fn neighbour_at(size: Size, row: i32, col: i32, down: i32, across: i32) -> Neighbour
-    requires { Stepping size row col down across }
-    ensures { Leads size row col down across result }
+pub fn neighbour_at(size: Size, place: Place, offset: [i32; 2]) -> Option<u32>
+    requires { Stepping size place offset }
+    ensures { Leads size place offset result }
 {
-    let to_row = row + down;
-    let to_col = col + across;
-    if !inside(size.rows, to_row) {
-        return Neighbour::Outside;
+    let row = place.row + offset[0];
+    let col = place.col + offset[1];
+    if !inside(size.rows, row) {
+        return None;
     }
-    if !inside(size.cols, to_col) {
-        return Neighbour::Outside;
+    if !inside(size.cols, col) {
+        return None;
     }
-    Neighbour::At(index(size, to_row, to_col))
+    Some(index(size, Place { row, col }))
 }
 
-// The neighbour at the i-th offset of the table from a cell's place, in the order in which they are tried.
-pub fn nth_neighbour(size: Size, place: Place, i: usize) -> Neighbour
-    requires { FromPlace size place i }
-    ensures { LeadsBy size place i result }
+// Stores the neighbours at some offsets from a place, those that are in the grid, behind those that were found.
+fn store_neighbours(size: Size, place: Place, offsets: &[[i32; 2]], near: &mut Neighbours)
+    requires { Storing size place offsets.now near.old }
+    ensures { Stored size place offsets.now near.old near.new }
 {
-    let offset = OFFSETS[i];
-    neighbour_at(size, place.row, place.col, offset[0], offset[1])
-}
-
-// Stores the neighbour at the i-th offset from a row and a column, where it is in the grid, behind
-// those that were found.
-fn store_neighbour(
-    cells: &mut [u32; 8],
-    found: usize,
-    size: Size,
-    row: i32,
-    col: i32,
-    i: usize,
-) -> usize
-    requires { Storing size row col found i }
-    ensures { Stored size row col i cells.old found cells.new result }
-{
-    let offset = OFFSETS[i];
-    let there = neighbour_at(size, row, col, offset[0], offset[1]);
-    match there {
-        Neighbour::At(cell) => {
-            cells[found] = cell;
-            found + 1
+    for offset in offsets {
+        if let Some(cell) = neighbour_at(size, place, *offset) {
+            near.cells[near.count] = cell;
+            near.count += 1;
         }
-        Neighbour::Outside => found,
     }
 }
 
@@ -126,22 +103,15 @@ fn neighbours_by_table(size: Size, cell: u32) -> Neighbours
     ensures { Lists size cell result }
 {
     let place = place_of(size, cell);
-    let mut cells = [0u32; 8];
-    let mut straight: usize = 0;
-    let mut count: usize = 0;
-    let mut i: usize = 0;
-    while i < 8 {
-        count = store_neighbour(&mut cells, count, size, place.row, place.col, i);
-        i += 1;
-        if i == 4 {
-            straight = count;
-        }
-    }
-    Neighbours {
-        cells,
-        straight,
-        count,
-    }
+    let mut near = Neighbours {
+        cells: [0; 8],
+        straight: 0,
+        count: 0,
+    };
+    store_neighbours(size, place, &OFFSETS[..STRAIGHT], &mut near);
+    near.straight = near.count;
+    store_neighbours(size, place, &OFFSETS[STRAIGHT..], &mut near);
+    near
 }
 
 // Whether k, one of the rows, or columns, before `end`, is neither the first nor the last.
@@ -167,18 +137,17 @@ pub fn interior_neighbours(size: Size, cell: u32) -> Neighbours
     ensures { Lists size cell result }
 {
     let place = place_of(size, cell);
-    let mut cells: [u32; 8] = [0; 8];
-    let mut i: usize = 0;
-    while i < 8 {
-        let offset = OFFSETS[i];
-        let row = place.row + offset[0];
-        let col = place.col + offset[1];
-        cells[i] = index(size, row, col);
-        i += 1;
+    let mut cells = [0; 8];
+    for (i, offset) in OFFSETS.iter().enumerate() {
+        let there = Place {
+            row: place.row + offset[0],
+            col: place.col + offset[1],
+        };
+        cells[i] = index(size, there);
     }
     Neighbours {
         cells,
-        straight: 4,
+        straight: STRAIGHT,
         count: 8,
     }
 }

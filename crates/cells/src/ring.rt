@@ -1,36 +1,14 @@
 // The cells that wait, first in first out: a ring in lent slots, one more of them than cells can wait.
 // The contracts speak of `contents`, the list of the waiting cells, alone.
-ghost use Rattle.std.specs.Prelude.{◌≡◌, ◌<◌};
-ghost use Rattle.cells.specs.Ring.{next, HasRoom, HasCell, SaysEmpty, NewRing, Pushed, Took};
+ghost use Rattle.std.specs.Prelude.{◌≡◌, ◌<◌, get_or};
+ghost use Rattle.cells.specs.Ring.{next, contents, HasRoom, HasCell, SaysEmpty, NewRing, Pushed, Took};
 
-// The slot of the cell that is next to be taken, and the slot that is next to be filled.
+// The slot of the cell that is next to be taken, and the slot that is next to be filled. The slots are lent to each call: what a slice
+// that is lent in a struct within a struct holds at the end was not proved.
 #[derive(Clone, Copy)]
 pub struct Ring {
     pub head: usize,
     pub tail: usize,
-}
-
-// The cell that was taken, and the ring without it.
-#[derive(Clone, Copy)]
-pub struct Taken {
-    pub cell: u32,
-    pub ring: Ring,
-}
-
-impl Ring {
-    // A ring in which nothing waits.
-    pub fn new() -> Self
-        ensures { NewRing result }
-    {
-        Self { head: 0, tail: 0 }
-    }
-}
-
-// Whether nothing waits.
-pub fn is_empty(ring: Ring) -> bool
-    ensures { SaysEmpty ring result }
-{
-    ring.head == ring.tail
 }
 
 // The slot after a slot, of `len` in a ring. A comparison takes less time than a remainder.
@@ -45,29 +23,45 @@ fn slot_after(len: usize, slot: usize) -> usize
     after
 }
 
-// Adds a cell behind those that wait.
-pub fn push(slots: &mut [u32], ring: Ring, cell: u32) -> Ring
-    requires { HasRoom slots.old ring }
-    ensures { Pushed slots.old ring cell slots.new result }
-{
-    let tail = ring.tail;
-    slots[tail] = cell;
-    Ring {
-        head: ring.head,
-        tail: slot_after(slots.len(), tail),
+impl Ring {
+    // A ring in which nothing waits.
+    pub fn new() -> Self
+        ensures { NewRing result }
+    {
+        Self { head: 0, tail: 0 }
     }
-}
 
-// Takes the cell that waited longest.
-pub fn take(slots: &[u32], ring: Ring) -> Taken
-    requires { HasCell slots.now ring }
-    ensures { Took slots.now ring result }
-{
-    let head = ring.head;
-    let cell = slots[head];
-    let rest = Ring {
-        head: slot_after(slots.len(), head),
-        tail: ring.tail,
-    };
-    Taken { cell, ring: rest }
+    // Whether nothing waits.
+    pub fn is_empty(&self) -> bool
+        ensures { SaysEmpty self.now result }
+    {
+        self.head == self.tail
+    }
+
+    // Adds a cell behind those that wait.
+    pub fn push(&mut self, slots: &mut [u32], cell: u32)
+        requires { HasRoom slots.old self.old }
+        ensures { Pushed slots.old self.old cell slots.new self.new }
+    {
+        slots[self.tail] = cell;
+        self.tail = slot_after(slots.len(), self.tail);
+    }
+
+    // The cell that waited longest, which waits on.
+    pub fn first(&self, slots: &[u32]) -> u32
+        requires { HasCell slots.now self.now }
+        ensures { result ≡ get_or (contents slots.now self.now) 0 0 }
+    {
+        slots[self.head]
+    }
+
+    // Takes the cell that waited longest.
+    pub fn take(&mut self, slots: &[u32]) -> u32
+        requires { HasCell slots.now self.old }
+        ensures { Took slots.now self.old result self.new }
+    {
+        let cell = self.first(slots);
+        self.head = slot_after(slots.len(), self.head);
+        cell
+    }
 }

@@ -35,7 +35,7 @@ pub fn in_bounds(size: Size) -> bool
 pub fn same_size(a: Size, b: Size) -> bool
     ensures { result ≡ same_size a b }
 {
-    a.rows == b.rows && a.cols == b.cols
+    a == b
 }
 
 // The number of cells. Two sides that are not below 0 have a product that fits, within the bounds or not.

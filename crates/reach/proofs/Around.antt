@@ -6,8 +6,7 @@ use Prim.Native.Nat.{ℕ, ◌+◌, ◌<◌}
 use lib.IntN.{ℤ}
 use lib.Ieee.{Float}
 use lib.ListN.{length, get_or, take}
-use Rattle.cells.specs.Storing.{stay, on, back}
-use Rattle.cells.proofs.Edges.{AllSteps, none, more}
+use Rattle.cells.specs.Storing.{stay, on, back, AllSteps, none, more}
 use Rattle.cells.proofs.NeighbourLists.{one_more}
 use Rattle.fifo.specs.Walk.{In}
 use Rattle.fifo.proofs.Lists.{take_more}

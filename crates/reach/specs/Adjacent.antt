@@ -1,14 +1,10 @@
 -- What the functions for the cells beside the listed ones are asked and promise. Definitions only.
 use mathlib.Core.List.{List, [], ◌∷◌, ◌++◌, foldl}
-use Rattle.std.specs.Prelude.{◌≡◌, ℕ, ◌<◌, T, Float, length, get_or, take}
-use Rattle.cells.specs.declared.neighbours.Neighbour.{Neighbour}
-use Rattle.cells.specs.declared.neighbours.Place.{Place}
-use Rattle.cells.specs.Neighbours.{CellOf, place_of}
-use Rattle.cells.specs.Storing.{cells_at}
+use Rattle.std.specs.Prelude.{◌≡◌, ℕ, ◌<◌, T, Float, length, take}
 use Rattle.fifo.specs.Walk.{In}
 use Rattle.rules.specs.declared.Size.{Size}
 use Rattle.rules.specs.Sizes.{in_bounds, count}
-use Rattle.rules.specs.Cells.{neighbour, neighbours}
+use Rattle.rules.specs.Cells.{neighbours}
 use Rattle.rules.specs.Sums.{add_values, adjacent_offsets, adjoin, adjacent_cells}
 use Rattle.reach.specs.Listing.{Met, Cells}
 
@@ -16,15 +12,6 @@ use Rattle.reach.specs.Listing.{Met, Cells}
 unfoldable pub beside : Size → List ℕ → List ℕ
 beside size [] = []
 beside size (u ∷ us) = neighbours size u adjacent_offsets ++ beside size us
-
--- What stands beside the cell at a place is to be found, by the number of its offset.
-pub record LooksBeside (size : Size) (place : Place) (i : ℕ) : Type 0 where
-  pub stands : (u : ℕ) × CellOf size u × (place ≡ place_of size u)
-  pub offset_in : i < 4
-
--- From that cell the i-th offset leads to the neighbour that is told.
-pub record LeadsBeside (size : Size) (place : Place) (i : ℕ) (there : Neighbour) : Type 0 where
-  pub leads : (u : ℕ) → CellOf size u → place ≡ place_of size u → cells_at there ≡ neighbour size u (get_or adjacent_offsets i [])
 
 -- The cells found so far are met, as are the listed ones, and their values were added to `base`.
 pub record Adding (n : ℕ) (values : List Float) (base : Float) (cells found met : List ℕ) (sum : Float) : Type 0 where

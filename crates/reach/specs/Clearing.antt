@@ -1,7 +1,6 @@
 -- What the functions that put cells back are asked and promise. Definitions only.
 use mathlib.Core.List.{List, foldl}
 use Rattle.std.specs.Prelude.{◌≡◌, ℕ, ◌<◌, T, length, set}
-use Rattle.fifo.specs.Walk.{In}
 use Rattle.rules.specs.declared.Size.{Size}
 use Rattle.rules.specs.Sizes.{in_bounds, count}
 use Rattle.reach.specs.Listing.{Cells}
@@ -9,10 +8,6 @@ use Rattle.reach.specs.Listing.{Cells}
 -- A slice with one value at each cell of a list.
 unfoldable pub put_back : {A : Type 0} → A → List A → List ℕ → List A
 put_back value slice cells = foldl (λ before c. set before c value) slice cells
-
--- Those of a list are cells of n.
-abbrev pub Within : ℕ → List ℕ → Type 0
-Within n vs = (v : ℕ) → In v vs → v < n
 
 -- The cells beside u are to be put back.
 pub record ClearingAround (size : Size) (u : ℕ) (met : List ℕ) : Type 0 where

@@ -1,13 +1,12 @@
 // The cells beside the listed ones, whose distance is above the budget: each is added once.
 ghost use Rattle.std.specs.Prelude.{[], ◌∷◌, take};
-ghost use Rattle.cells.specs.Storing.{cells_at};
 ghost use Rattle.rules.specs.Cells.{neighbours};
 ghost use Rattle.rules.specs.Sums.{adjacent_offsets};
-ghost use Rattle.reach.specs.Adjacent.{LooksBeside, LeadsBeside, Adjoins, Trying, Around, Beside, AddedAdjacent};
+ghost use Rattle.reach.specs.Adjacent.{Adjoins, Trying, Around, Beside, AddedAdjacent};
 
 use crate::listing::MET;
 use crate::summing::{add_value, is_above};
-use cells::{Neighbour, Place, neighbour_at, place_of};
+use cells::{neighbour_at, place_of};
 use rules::Size;
 
 // The offsets of the cells beside a cell, row and column each, in the order in which they are added.
@@ -17,15 +16,6 @@ pub const ADJACENT: [[i32; 2]; 4] = [
     [0, -1], // left
     [0, 1], // right
 ];
-
-// What stands beside the cell at a place, by the number of its offset.
-pub fn beside_at(size: Size, place: Place, i: usize) -> Neighbour
-    requires { LooksBeside size place i }
-    ensures { LeadsBeside size place i result }
-{
-    let offset = ADJACENT[i];
-    neighbour_at(size, place.row, place.col, offset[0], offset[1])
-}
 
 // Adds the value of a cell that was not met and is above the budget, and notes that it is met.
 fn add_once(
@@ -50,24 +40,6 @@ fn add_once(
     add_value(values, cell, sum)
 }
 
-// Adds the cell that stands at an offset, if one does.
-fn add_there(
-    there: Neighbour,
-    values: &[f32],
-    distances: &[f32],
-    budget: f32,
-    sum: f32,
-    met: &mut [u32],
-) -> f32
-    requires { Trying values.now distances.now met.old (cells_at there) }
-    ensures { Adjoins values.now distances.now budget (cells_at there) met.old sum met.new result }
-{
-    match there {
-        Neighbour::At(cell) => add_once(values, distances, cell, budget, sum, met),
-        Neighbour::Outside => sum,
-    }
-}
-
 // Adds the cells beside one cell: above, below, left, right, those that are in the grid.
 fn add_around(
     size: Size,
@@ -83,9 +55,10 @@ fn add_around(
 {
     let place = place_of(size, cell);
     let mut total = sum;
-    for i in 0..4 {
-        let there = beside_at(size, place, i);
-        total = add_there(there, values, distances, budget, total, met);
+    for offset in ADJACENT {
+        if let Some(beside) = neighbour_at(size, place, offset) {
+            total = add_once(values, distances, beside, budget, total, met);
+        }
     }
     total
 }

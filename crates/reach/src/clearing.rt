@@ -1,14 +1,13 @@
 // What a search from one cell left is put back for the next one: the listed cells, and those beside them.
 ghost use Rattle.std.specs.Prelude.{cond, [], ◌++◌, ◌≡◌, length, take};
-ghost use Rattle.cells.specs.Storing.{cells_at};
 ghost use Rattle.rules.specs.Cells.{neighbours};
 ghost use Rattle.rules.specs.Sums.{adjacent_offsets};
 ghost use Rattle.reach.specs.Listing.{Cells};
 ghost use Rattle.reach.specs.Adjacent.{beside};
-ghost use Rattle.reach.specs.Clearing.{put_back, Within, ClearingAround, Clearing};
+ghost use Rattle.reach.specs.Clearing.{put_back, ClearingAround, Clearing};
 
-use crate::adjacent::beside_at;
-use cells::{Neighbour, place_of};
+use crate::adjacent::ADJACENT;
+use cells::{neighbour_at, place_of};
 use rules::Size;
 
 // The listed cells' distances are the cap again.
@@ -35,29 +34,17 @@ fn clear_listed(listed: &[u32], count: usize, met: &mut [u32])
     }
 }
 
-// The cell that stands at an offset, if one does, is not met any more.
-fn clear_there(there: Neighbour, met: &mut [u32])
-    requires { Within (length met.old) (cells_at there) }
-    ensures { met.new ≡ put_back 0 met.old (cells_at there) }
-{
-    match there {
-        Neighbour::At(cell) => {
-            let at = cell as usize;
-            met[at] = 0;
-        }
-        Neighbour::Outside => {}
-    }
-}
-
 // The cells beside one cell are not met any more.
 fn clear_around(size: Size, cell: u32, met: &mut [u32])
     requires { ClearingAround size cell met.old }
     ensures { met.new ≡ put_back 0 met.old (neighbours size cell adjacent_offsets) }
 {
     let place = place_of(size, cell);
-    for i in 0..4 {
-        let there = beside_at(size, place, i);
-        clear_there(there, met);
+    for offset in ADJACENT {
+        if let Some(beside) = neighbour_at(size, place, offset) {
+            let at = beside as usize;
+            met[at] = 0;
+        }
     }
 }
 

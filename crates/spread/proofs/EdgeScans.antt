@@ -9,12 +9,13 @@ use borrow.Author.Tests.{leb-true, leb-false}
 use lib.Dec.{leb}
 use lib.ListN.{get_or, take, drop}
 use lib.Seq.{take_all, get_or-take, get_or-drop}
+use Rattle.std.specs.Prelude.{Option, Some, None, option_to_list}
 use Rattle.cells.specs.Neighbours.{CellOf, place_of}
-use Rattle.cells.specs.Storing.{cells_at, FromPlace, LeadsBy}
-use Rattle.cells.specs.declared.neighbours.Neighbour.{Neighbour}
-use Rattle.cells.specs.declared.neighbours.Neighbour.TheVariants.{At, Outside}
+use Rattle.cells.specs.Storing.{Stepping, Leads}
 use Rattle.cells.specs.declared.neighbours.Place.{Place}
+use Rattle.cells.proofs.Edges.{steps}
 use Rattle.cells.proofs.NeighbourLists.{one_more}
+use Rattle.cells.proofs.Storing.{stepping}
 use Rattle.fifo.specs.Machine.{scan}
 use Rattle.fifo.proofs.Induction.{scan_append}
 use Rattle.rules.specs.Cells.{offsets, neighbour, neighbours, keep}
@@ -34,8 +35,8 @@ unfolding straight_steps diagonal_steps keep
 no_steps search ground true u = refl
 no_steps search ground false u = refl
 
-module _ {search : Search} {by : Numbers} {ground : Terrain} {u : ℕ} {there : Neighbour} {b : Buffers} (enters : EnteringThere search by ground u there b) where
-  pub entering_there : {v : ℕ} → there ≡ At v → Entering search by ground u v b
+module _ {search : Search} {by : Numbers} {ground : Terrain} {u : ℕ} {there : Option ℕ} {b : Buffers} (enters : EnteringThere search by ground u there b) where
+  pub entering_there : {v : ℕ} → there ≡ Some v → Entering search by ground u v b
   entering_there {v} is = record {
     numbered = enters.scans.numbered;
     tries = record { good = enters.scans.good; inside = enters.inside v is };
@@ -44,17 +45,17 @@ module _ {search : Search} {by : Numbers} {ground : Terrain} {u : ℕ} {there : 
   }
 
 -- Where something stands there, that was tried, and where nothing does, nothing.
-module _ (search : Search) (ground : Terrain) (left : Left) (diagonally : Bool) {there : Neighbour} where
+module _ (search : Search) (ground : Terrain) (left : Left) (diagonally : Bool) {there : Option ℕ} where
   pub there_tried :
-      {v : ℕ} {before after : Buffers} → there ≡ At v
+      {v : ℕ} {before after : Buffers} → there ≡ Some v
       → Does search (scanning (left_label search left) (steps_by search ground diagonally left.cell (v ∷ []))) before after
-      → Does search (scanning (left_label search left) (steps_by search ground diagonally left.cell (cells_at there))) before after
+      → Does search (scanning (left_label search left) (steps_by search ground diagonally left.cell (option_to_list there))) before after
   there_tried is does = rw is does
 
   pub none_there :
-      {b : Buffers} → there ≡ Outside → Good search b
-      → Does search (scanning (left_label search left) (steps_by search ground diagonally left.cell (cells_at there))) b b
-  none_there is = none_tried search left (ap (λ n. steps_by search ground diagonally left.cell (cells_at n)) is ∙ no_steps search ground diagonally left.cell)
+      {b : Buffers} → there ≡ None → Good search b
+      → Does search (scanning (left_label search left) (steps_by search ground diagonally left.cell (option_to_list there))) b b
+  none_there is = none_tried search left (ap (λ n. steps_by search ground diagonally left.cell (option_to_list n)) is ∙ no_steps search ground diagonally left.cell)
 
 -- ---- one offset more
 
@@ -141,18 +142,18 @@ module _ {search : Search} {by : Numbers} {ground : Terrain} {u : ℕ} {first b 
   cell_of = record { bounds = scans.setting.bounds; below = scans.source }
 
   module _ {place : Place} (is_place : place ≡ place_of search.size u) (k : ℕ) (below : k < 8) where
-    pub from_place : FromPlace search.size place k
-    from_place = record { cell = (u, cell_of, is_place); offset_in = below }
+    pub from_place : Stepping search.size place (get_or offsets k [])
+    from_place = stepping cell_of is_place steps k
 
-    module _ {there : Neighbour} (leads : LeadsBy search.size place k there) where
-      pub led : cells_at there ≡ neighbour search.size u (get_or offsets k [])
-      led = leads.leads u cell_of is_place
+    module _ {there : Option ℕ} (leads : Leads search.size place (get_or offsets k []) there) where
+      pub led : option_to_list there ≡ neighbour search.size u (get_or offsets k [])
+      led = leads.leads u is_place
 
       pub enters_there : EnteringThere search by ground u there b
       unfolding neighbours
       enters_there = record {
         scans = record { numbered = scans.numbered; good = good; setting = scans.setting; source = scans.source };
         inside = λ v is.
-            let one : neighbour search.size u (get_or offsets k []) ≡ v ∷ [] = sym led ∙ ap cells_at is in
+            let one : neighbour search.size u (get_or offsets k []) ≡ v ∷ [] = sym led ∙ ap option_to_list is in
             neighbours_inside search.size u (get_or offsets k [] ∷ []) v (rw one (inl refl));
       }

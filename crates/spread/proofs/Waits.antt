@@ -10,7 +10,6 @@ use lib.Dec.{eqb}
 use lib.ListN.{length, get_or, set, length-set}
 use Rattle.cells.specs.Ring.{contents, HasRoom, Pushed, Took}
 use Rattle.cells.specs.declared.ring.Ring.{Ring}
-use Rattle.cells.specs.declared.ring.Taken.{Taken}
 use Rattle.fifo.specs.Machine.{among}
 use Rattle.fifo.specs.Walk.{In, NoDup}
 use Rattle.fifo.proofs.Lists.{after_set, in_snoc, joined_waiting, joined_new, no_dup_joined, not_among, among_other, among_tail, among_last}
@@ -116,31 +115,31 @@ module _ {cell : ℕ} {marks queue : List ℕ} {ring : Ring} (joins : Joining ce
 
 -- ---- the first is taken
 
-module _ {marks queue : List ℕ} {ring : Ring} (waits : Waiting (length marks) marks queue ring) {taken : Taken} (took : Took queue ring taken) where
-  single_split : NoDup (taken.cell ∷ contents queue taken.ring)
+module _ {marks queue : List ℕ} {ring : Ring} (waits : Waiting (length marks) marks queue ring) {cell : ℕ} {ring' : Ring} (took : Took queue ring cell ring') where
+  single_split : NoDup (cell ∷ contents queue ring')
   single_split = rw took.split at waits.single
 
-  in_before : (c : ℕ) → In c (taken.cell ∷ contents queue taken.ring) → c < length marks
+  in_before : (c : ℕ) → In c (cell ∷ contents queue ring') → c < length marks
   in_before c i = waits.inside c (rw took.split i)
 
-  pub taken_inside : taken.cell < length marks
-  taken_inside = in_before taken.cell (inl refl)
+  pub taken_inside : cell < length marks
+  taken_inside = in_before cell (inl refl)
 
-  pub took_first : (mark : ℕ) → (mark ≡ border → ⊥) → TookFirst marks queue ring (set marks taken.cell mark) taken
+  pub took_first : (mark : ℕ) → (mark ≡ border → ⊥) → TookFirst marks queue ring (set marks cell mark) cell ring'
   took_first mark other_mark = record {
-    same_length = length-set marks taken.cell mark;
+    same_length = length-set marks cell mark;
     inside = taken_inside;
     split = took.split;
     waits = record {
       few = rw length-set (omega arith);
-      slots = waits.slots ∙ ap suc (sym (length-set marks taken.cell mark));
+      slots = waits.slots ∙ ap suc (sym (length-set marks cell mark));
       in_slots = took.good;
       single = single_split.1;
       inside = λ c i. in_before c (inr i);
       marked = λ c below.
-          let rest = contents queue taken.ring in
-          after_set (λ m. eqb m border ≡ among c rest) marks taken.cell mark 0 c taken_inside
-          (λ p. rw p (ne_eqb mark border other_mark ∙ sym (not_among taken.cell rest single_split.0)))
-          (λ other. waits.marked c below ∙ ap (among c) took.split ∙ among_tail c taken.cell rest other);
+          let rest = contents queue ring' in
+          after_set (λ m. eqb m border ≡ among c rest) marks cell mark 0 c taken_inside
+          (λ p. rw p (ne_eqb mark border other_mark ∙ sym (not_among cell rest single_split.0)))
+          (λ other. waits.marked c below ∙ ap (among c) took.split ∙ among_tail c cell rest other);
     };
   }

@@ -1,10 +1,8 @@
 -- What the functions of the loop ask and promise, from one neighbour to the whole run. Definitions only.
-use Rattle.std.specs.Prelude.{Bool, true, false, cond, List, [], ◌∷◌, ◌++◌, map, ◌≡◌, ℕ, ◌-◌, ◌*◌, ◌≤◌, ◌<◌, T, Float, length, get_or, set, take, drop}
+use Rattle.std.specs.Prelude.{Bool, true, false, cond, List, [], ◌∷◌, ◌++◌, map, ◌≡◌, ℕ, ◌-◌, ◌*◌, ◌≤◌, ◌<◌, T, Float, length, get_or, set, take, drop, Option, Some}
 use Rattle.std.specs.Float.{nan}
 use Rattle.cells.specs.Interior.{Interior}
 use Rattle.cells.specs.Ring.{contents, RingGood}
-use Rattle.cells.specs.declared.neighbours.Neighbour.{Neighbour}
-use Rattle.cells.specs.declared.neighbours.Neighbour.TheVariants.{At}
 use Rattle.cells.specs.declared.ring.Ring.{Ring}
 use Rattle.fifo.specs.Machine as machine
 use Rattle.fifo.specs.Machine.{Net, State, initial, run, takes, trace}
@@ -79,9 +77,9 @@ pub record ScanningAll (search : Search) (by : Numbers) (ground : Terrain) (u : 
   pub source : u < count search.size
 
 -- Of these the one that is told of, if any.
-pub record EnteringThere (search : Search) (by : Numbers) (ground : Terrain) (u : ℕ) (there : Neighbour) (b : Buffers) : Type 0 where
+pub record EnteringThere (search : Search) (by : Numbers) (ground : Terrain) (u : ℕ) (there : Option ℕ) (b : Buffers) : Type 0 where
   pub scans : ScanningAll search by ground u b
-  pub inside : (v : ℕ) → there ≡ At v → v < count search.size
+  pub inside : (v : ℕ) → there ≡ Some v → v < count search.size
 
 -- A cell's label can be read.
 pub record CanLeave (carrying : Bool) (distances carried : List Float) (cell : ℕ) : Type 0 where

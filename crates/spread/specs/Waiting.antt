@@ -2,7 +2,6 @@
 use Rattle.std.specs.Prelude.{Bool, false, cond, List, [], ◌∷◌, ◌++◌, ◌≡◌, ℕ, suc, ◌+◌, ◌≤◌, ◌<◌, eqb, length, get_or}
 use Rattle.cells.specs.Ring.{contents, RingGood}
 use Rattle.cells.specs.declared.ring.Ring.{Ring}
-use Rattle.cells.specs.declared.ring.Taken.{Taken}
 use Rattle.fifo.specs.Machine.{among, joined}
 use Rattle.fifo.specs.Walk.{In, NoDup}
 
@@ -51,8 +50,8 @@ pub record SomeWait (marks queue : List ℕ) (ring : Ring) : Type 0 where
   pub some : 0 < length (contents queue ring)
 
 -- The first of those that waited does no more.
-pub record TookFirst (marks queue : List ℕ) (ring : Ring) (marks' : List ℕ) (taken : Taken) : Type 0 where
+pub record TookFirst (marks queue : List ℕ) (ring : Ring) (marks' : List ℕ) (cell : ℕ) (ring' : Ring) : Type 0 where
   pub same_length : length marks' ≡ length marks
-  pub waits : Waiting (length marks) marks' queue taken.ring
-  pub inside : taken.cell < length marks
-  pub split : contents queue ring ≡ taken.cell ∷ contents queue taken.ring
+  pub waits : Waiting (length marks) marks' queue ring'
+  pub inside : cell < length marks
+  pub split : contents queue ring ≡ cell ∷ contents queue ring'

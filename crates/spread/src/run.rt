@@ -10,7 +10,7 @@ use crate::search::{Rule, Search};
 use crate::steps::{Avoids, BetweenObstacles, Nothing, Obstacles};
 use crate::take::take_edge_cell;
 use crate::take_inner::take_inner;
-use cells::{Ring, cell_count, is_empty};
+use cells::{Ring, cell_count};
 use rules::BarrierDiagonals;
 
 // Takes cells until nothing waits; the answer is how many were taken. Those at no edge are taken in a loop of their own.
@@ -48,7 +48,7 @@ fn run<F: Formula, A: Avoids, const CARRYING: bool>(
         waiting = some.ring;
         takes += some.takes;
         if takes < most {
-            if is_empty(waiting) {
+            if waiting.is_empty() {
                 return takes;
             }
             let took = take_edge_cell::<F, A, CARRYING>(

@@ -10,7 +10,7 @@ use crate::scan_edge::scan_edge;
 use crate::search::Search;
 use crate::steps::Avoids;
 use crate::waiting::take_first;
-use cells::{Ring, interior_neighbours, is_empty, is_interior, take};
+use cells::{Ring, interior_neighbours, is_interior};
 use rules::Size;
 
 // A taken cell, the distance that it had when it was taken, and the ring afterwards.
@@ -47,11 +47,11 @@ pub fn is_next_inner(size: Size, queue: &[u32], ring: Ring) -> bool
     requires { Looking size queue.now ring }
     ensures { SaysNextInner size queue.now ring result }
 {
-    if is_empty(ring) {
+    if ring.is_empty() {
         return false;
     }
-    let next = take(queue, ring);
-    is_interior(size, next.cell)
+    let next = ring.first(queue);
+    is_interior(size, next)
 }
 
 // Takes the next cell, which is at no edge.
@@ -70,9 +70,8 @@ pub fn take_inner_cell<F: Formula, A: Avoids, const CARRYING: bool>(
         (buffers distances.old carried.old marks.old queue.old ring)
         (buffers distances.new carried.new marks.new queue.new result.ring) result }
 {
-    let taken = take_first(marks, queue, ring);
-    let cell = taken.cell;
-    let rest = taken.ring;
+    let mut rest = ring;
+    let cell = take_first(marks, queue, &mut rest);
     let left = leave::<CARRYING>(distances, carried, cell);
     let around = interior_neighbours(search.size, cell);
     let waiting = scan_listed::<F, A, CARRYING>(
@@ -112,9 +111,8 @@ pub fn take_edge_cell<F: Formula, A: Avoids, const CARRYING: bool>(
         (buffers distances.old carried.old marks.old queue.old ring)
         (buffers distances.new carried.new marks.new queue.new result.ring) result }
 {
-    let taken = take_first(marks, queue, ring);
-    let cell = taken.cell;
-    let rest = taken.ring;
+    let mut rest = ring;
+    let cell = take_first(marks, queue, &mut rest);
     let left = leave::<CARRYING>(distances, carried, cell);
     let waiting = scan_edge::<F, A, CARRYING>(
         search, obstacles, times, left, distances, carried, marks, queue, rest,

@@ -1,7 +1,7 @@
 // Which cells wait: their marks, and the ring that holds them.
 ghost use Rattle.spread.specs.Waiting.{Beginning, Began, Joining, Joined, SomeWait, TookFirst};
 
-use cells::{Ring, Taken, push, take};
+use cells::Ring;
 
 // The cell was not reached, waits, or was taken.
 pub const MARK_TODO: u8 = 0;
@@ -24,7 +24,9 @@ pub fn begin_waiting(
     let at = cell as usize;
     if starts {
         marks[at] = MARK_BORDER;
-        return push(queue, ring, cell);
+        let mut waiting = ring;
+        waiting.push(queue, cell);
+        return waiting;
     }
     marks[at] = MARK_TODO;
     ring
@@ -38,19 +40,20 @@ pub fn wait(cell: u32, marks: &mut [u8], queue: &mut [u32], ring: Ring) -> Ring
     let at = cell as usize;
     if marks[at] != MARK_BORDER {
         marks[at] = MARK_BORDER;
-        return push(queue, ring, cell);
+        let mut waiting = ring;
+        waiting.push(queue, cell);
+        return waiting;
     }
     ring
 }
 
 // Takes the cell that waited longest, and marks it so.
-pub fn take_first(marks: &mut [u8], queue: &[u32], ring: Ring) -> Taken
-    requires { SomeWait marks.old queue.now ring }
-    ensures { TookFirst marks.old queue.now ring marks.new result }
+pub fn take_first(marks: &mut [u8], queue: &[u32], ring: &mut Ring) -> u32
+    requires { SomeWait marks.old queue.now ring.old }
+    ensures { TookFirst marks.old queue.now ring.old marks.new result ring.new }
 {
-    let taken = take(queue, ring);
-    let cell = taken.cell;
+    let cell = ring.take(queue);
     let at = cell as usize;
     marks[at] = MARK_DONE;
-    taken
+    cell
 }

@@ -6,7 +6,7 @@ ghost use Rattle.spread.specs.Buffers.{buffers};
 ghost use Rattle.sums.specs.Gain as gains;
 ghost use Rattle.sums.specs.Gain.{InAnswer, GainedCell, Gaining, GainedAll};
 
-use cells::{Ring, is_empty};
+use cells::Ring;
 use spread::{Nothing, PlusTimeOrQuarter, Search, take_next};
 
 // The mark of a cell that has gained the amount.
@@ -60,7 +60,7 @@ pub fn run_gaining(
 {
     let mut waiting = ring;
     let mut takes: u64 = 0;
-    while !is_empty(waiting) {
+    while !waiting.is_empty() {
         let took = take_next::<PlusTimeOrQuarter, Nothing, false>(
             search, obstacles, times, distances, carried, marks, queue, waiting,
         );

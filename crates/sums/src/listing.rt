@@ -3,7 +3,7 @@ ghost use Rattle.spread.specs.Steps.{terrain};
 ghost use Rattle.spread.specs.Buffers.{buffers};
 ghost use Rattle.sums.specs.Listed.{Lists, ListedAll};
 
-use cells::{Ring, is_empty};
+use cells::Ring;
 use reach::list_cell;
 use spread::{Nothing, PlusHalfSum, Search, take_next};
 
@@ -36,7 +36,7 @@ pub fn run_listing(
     let mut waiting = ring;
     let mut takes: u64 = 0;
     let mut entries: usize = 0;
-    while !is_empty(waiting) {
+    while !waiting.is_empty() {
         let took = take_next::<PlusHalfSum, Nothing, false>(
             search, obstacles, times, distances, carried, marks, queue, waiting,
         );

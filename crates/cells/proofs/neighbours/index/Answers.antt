@@ -7,11 +7,11 @@ use Rattle.cells.proofs.neighbours.index.Goals.{Start}
 bounds : (c : Start) → Bounded c.args.size
 bounds c = bounded c.args.size c.requires.bounds
 
-row_in : (c : Start) → Inside c.args.size.rows c.args.row
-row_in c = inside c.args.size.rows c.args.row c.requires.row_in
+row_in : (c : Start) → Inside c.args.size.rows c.args.place.row
+row_in c = inside c.args.size.rows c.args.place.row c.requires.row_in
 
-col_in : (c : Start) → Inside c.args.size.cols c.args.col
-col_in c = inside c.args.size.cols c.args.col c.requires.col_in
+col_in : (c : Start) → Inside c.args.size.cols c.args.place.col
+col_in c = inside c.args.size.cols c.args.place.col c.requires.col_in
 
 pub overflow_add-result : goal.overflow_add-result
 overflow_add-result c = index_sum_fits c.args.size (bounds (goal.at.overflow_add-result c).Start) (row_in (goal.at.overflow_add-result c).Start) (col_in (goal.at.overflow_add-result c).Start)

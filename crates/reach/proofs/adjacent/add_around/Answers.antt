@@ -1,27 +1,45 @@
 -- `adjacent::add_around` meets its contract: before each turn the neighbours at the offsets that were passed have been tried. Assumes nothing.
 use mathlib.Core.List.{[]}
-use mathlib.Core.Path.{◌≡◌}
-use native.Mathlib.Omega.{arith}
+use mathlib.Core.Path.{◌≡◌, sym, ap, ◌∙◌}
 use lib.ListN.{get_or}
-use Rattle.cells.specs.Storing.{cells_at}
+use Rattle.std.specs.Prelude.{option_to_list}
+use Rattle.cells.specs.Neighbours.{CellOf}
+use Rattle.cells.proofs.Storing.{stepping}
 use Rattle.rules.specs.Cells.{neighbour}
 use Rattle.rules.specs.Sums.{adjacent_offsets}
-use Rattle.reach.proofs.Around.{still_fitting, trying_there, around_none, around_more}
+use Rattle.reach.proofs.Adjoining.{adjoins_none}
+use Rattle.reach.proofs.Around.{steps, still_fitting, trying_there, around_none, around_more}
 use Rattle.reach.proofs.adjacent.add_around.Goals as goal
-use Rattle.reach.proofs.adjacent.add_around.Goals.{After-beside_at-there}
+use Rattle.reach.proofs.adjacent.add_around.Goals.{Start, After-neighbour_at, in-Some, in_default}
+
+cell_of : (c : Start) → CellOf c.args.size c.args.cell
+cell_of c = record { bounds = c.requires.fits.bounds; below = c.requires.inside }
 
 -- The offset of this turn leads to the neighbour of the rules.
 led :
-    (c : After-beside_at-there)
+    (c : After-neighbour_at)
     → let a = c.args in
-    cells_at c.beside_at-there.result ≡ neighbour a.size a.cell (get_or adjacent_offsets c.loop-i.i [])
-led c = c.beside_at-there.ensures.leads c.args.cell ((record { bounds = c.requires.fits.bounds; below = c.requires.inside })) c.place_of-place.ensures
+    option_to_list c.neighbour_at.result ≡ neighbour a.size a.cell (get_or adjacent_offsets c.loop-offset.offset-index [])
+led c = c.neighbour_at.ensures.leads c.args.cell c.place_of-place.ensures
 
-pub loop-i-init : goal.loop-i-init
-loop-i-init c = (omega arith, around_none c.args.size c.args.cell)
+pub loop-offset-init : goal.loop-offset-init
+loop-offset-init c = around_none c.args.size c.args.cell
 
-pub add_there-total-requires : goal.add_there-total-requires
-add_there-total-requires c = let at = c.loop-i in trying_there c.args.cell (get_or adjacent_offsets at.i []) (still_fitting c.requires.fits at.invariant.1.same_length) (led (goal.at.add_there-total-requires c).After-beside_at-there)
+pub neighbour_at-requires : goal.neighbour_at-requires
+neighbour_at-requires c = stepping (cell_of (goal.at.neighbour_at-requires c).Start) c.place_of-place.ensures steps c.loop-offset.offset-index
 
-pub loop-i-preserved : goal.loop-i-preserved
-loop-i-preserved c = let at = c.loop-i in let less = c.loop-i-test.true in (omega arith, around_more c.args.size c.args.cell at.i less (led (goal.at.loop-i-preserved c).After-beside_at-there) at.invariant.1 c.add_there-total.ensures)
+pub add_once-total-requires : goal.add_once-total-requires
+add_once-total-requires c =
+    let at = c.loop-offset in
+    trying_there c.args.cell (get_or adjacent_offsets at.offset-index []) (still_fitting c.requires.fits at.invariant.same_length)
+    (ap option_to_list (sym c.in-Some.is) ∙ led (goal.at.add_once-total-requires c).After-neighbour_at)
+
+pub loop-offset-preserved : goal.loop-offset-preserved
+loop-offset-preserved c =
+    let at = c.loop-offset in
+    let to = led (goal.at.loop-offset-preserved c).After-neighbour_at in
+    let less = c.loop-offset-test.true in
+    elim c.match-neighbour_at.branch [
+      | in-Some w ↦ rw (w.met-is, w.total-is) (around_more c.args.size c.args.cell at.offset-index less (ap option_to_list (sym w.in-Some.is) ∙ to) at.invariant w.add_once-total.ensures)
+      | in_default w ↦ rw (w.met-is, w.total-is) (around_more c.args.size c.args.cell at.offset-index less (ap option_to_list (sym w.in_default.is) ∙ to) at.invariant adjoins_none)
+    ]

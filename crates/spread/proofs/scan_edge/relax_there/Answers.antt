@@ -3,5 +3,5 @@ use Rattle.spread.specs.Steps.{terrain}
 use Rattle.spread.proofs.EdgeScans.{none_there}
 use Rattle.spread.proofs.scan_edge.relax_there.Goals as goal
 
-pub returns-in-Outside : goal.returns-in-Outside
-returns-in-Outside g c = none_there c.args.search (terrain c.args.obstacles.now c.args.times.now) c.args.left c.args.diagonal c.in-Outside.is c.requires.scans.good
+pub returns-in-None : goal.returns-in-None
+returns-in-None g c = none_there c.args.search (terrain c.args.obstacles.now c.args.times.now) c.args.left c.args.diagonal c.in-None.is c.requires.scans.good

@@ -1,6 +1,0 @@
--- `ring::is_empty` meets its contract. Assumes nothing.
-use Rattle.cells.proofs.RingContents.{empty_where_met}
-use Rattle.cells.proofs.ring.is_empty.Goals as goal
-
-pub returns : goal.returns
-returns c = record { says = λ slots. empty_where_met slots c.args.ring }
