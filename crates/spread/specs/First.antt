@@ -60,9 +60,9 @@ pub record FirstOf (search : Search) (targets : List ℕ) (times values : List F
   pub label : (obstacles : List ℕ) → labelled search.rule first.distance first.value ≡ (net_on search targets obstacles times values).first cell
   pub starts : (obstacles : List ℕ) → first.starts ≡ (net_on search targets obstacles times values).start cell
 
--- ---- from which targets a search begins, by number, which the loop has as a constant
+-- ---- from which targets a search begins, by number, which the loop has as a type
 
--- Those of search 1, of 2, of 3 and of 4. Any other number is for those of 5 and 6.
+-- Those of search 1, of 2, of 3, of 4, and of 5 and 6. Any other number is the last's.
 abbrev pub from_plain_targets : ℕ
 from_plain_targets = 0
 
@@ -74,6 +74,9 @@ from_travel_targets = 2
 
 abbrev pub from_closest_targets : ℕ
 from_closest_targets = 3
+
+abbrev pub from_valued_targets : ℕ
+from_valued_targets = 4
 
 -- A cell can be read in the grids that are looked at.
 pub record Reads (from : ℕ) (targets : List ℕ) (times values : List Float) (cell : ℕ) : Type 0 where

@@ -178,6 +178,11 @@ pub record Running (search : Search) (ground : Terrain) (b : Buffers) : Type 0 w
   pub setting : Setting search ground
   pub ready : (net : Net Carried) × Ready search ground net b
 
+-- The same, by the numbers of the rule.
+pub record RunningBy (search : Search) (by : Numbers) (ground : Terrain) (b : Buffers) : Type 0 where
+  pub runs : Running search ground b
+  pub numbered : by ≡ numbers_of search.rule
+
 -- Each of r takes was made, after them nothing waits, and the buffers hold the labels.
 pub record Ended (search : Search) (net : Net Carried) (distances carried : List Float) (r : ℕ) : Type 0 where
   pub all : takes net r (initial net) ≡ r

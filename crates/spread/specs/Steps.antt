@@ -53,7 +53,7 @@ may_straight rule obstacles v = cond (avoids rule) (free obstacles v) true
 abbrev pub may_diagonal : Rule → Grid ℕ → ℕ → ℕ → Bool
 may_diagonal rule obstacles u v = cond (avoids rule) (free obstacles v && not (blocked (ways rule).diagonals obstacles u v)) true
 
--- ---- what a rule permits and how it adds, by numbers, which the loop has as constants
+-- ---- what a rule permits and how it adds, by numbers: those of the types that the loop has
 
 -- What is avoided. 0: nothing. 1: obstacles. 2: these, and diagonals between two of them.
 abbrev pub avoided_with : BarrierDiagonals → ℕ

@@ -5,8 +5,7 @@ ghost use Rattle.spread.specs.Begin.{BeginsCell, BeganCell, BeganTo, Begins, Beg
 ghost use Rattle.spread.specs.Buffers.{buffers};
 
 use crate::first::{
-    FROM_CLOSEST_TARGETS, FROM_PLAIN_TARGETS, FROM_TARGETS, FROM_TRAVEL_TARGETS,
-    FROM_VALUED_TARGETS, above_all, first_label,
+    AnyTargets, ClosestTargets, PlainTargets, Targets, TravelTargets, ValuedTargets, above_all,
 };
 use crate::relax::carry;
 use crate::search::{Rule, Search};
@@ -16,9 +15,7 @@ use calls::fill;
 use cells::{Ring, cell_count};
 
 // One cell begins.
-fn begin_cell(
-    from: u8,
-    carrying: bool,
+fn begin_cell<K: Targets, const CARRYING: bool>(
     cap: f32,
     targets: &[u8],
     times: &[f32],
@@ -30,23 +27,21 @@ fn begin_cell(
     queue: &mut [u32],
     ring: Ring,
 ) -> Ring
-    requires { BeginsCell from carrying targets.now times.now values.now cell (buffers distances.old carried.old marks.old queue.old ring) }
-    ensures { BeganCell from carrying cap targets.now times.now values.now cell
+    requires { BeginsCell K.number CARRYING targets.now times.now values.now cell (buffers distances.old carried.old marks.old queue.old ring) }
+    ensures { BeganCell K.number CARRYING cap targets.now times.now values.now cell
         (buffers distances.old carried.old marks.old queue.old ring)
         (buffers distances.new carried.new marks.new queue.new result) }
 {
     let at = cell as usize;
-    let label = first_label(from, cap, targets, times, values, cell);
+    let label = K::first_label(cap, targets, times, values, cell);
     distances[at] = label.distance;
-    carry(carrying, cell, label.value, carried);
+    carry::<CARRYING>(cell, label.value, carried);
     begin_waiting(cell, label.starts, marks, queue, ring)
 }
 
 // Every cell begins, in row order.
-fn begin_each(
+fn begin_each<K: Targets, const CARRYING: bool>(
     search: Search,
-    from: u8,
-    carrying: bool,
     cap: f32,
     targets: &[u8],
     times: &[f32],
@@ -56,19 +51,16 @@ fn begin_each(
     marks: &mut [u8],
     queue: &mut [u32],
 ) -> Ring
-    requires { BeginsEach search from carrying cap targets.now times.now values.now distances.old carried.old marks.old queue.old }
+    requires { BeginsEach search K.number CARRYING cap targets.now times.now values.now distances.old carried.old marks.old queue.old }
     ensures { BeganTo search targets.now times.now values.now (count search.size) carried.old
         (buffers distances.new carried.new marks.new queue.new result) }
 {
     let end = cell_count(search.size) as u32;
     let mut ring = Ring::new();
-    let mut cell: u32 = 0;
-    while cell < end {
-        ring = begin_cell(
-            from, carrying, cap, targets, times, values, cell, distances, carried, marks, queue,
-            ring,
+    for cell in 0..end {
+        ring = begin_cell::<K, CARRYING>(
+            cap, targets, times, values, cell, distances, carried, marks, queue, ring,
         );
-        cell += 1;
     }
     ring
 }
@@ -122,7 +114,7 @@ fn begin_from(
     begin_at(origin, times, distances, marks, queue)
 }
 
-// Every cell begins. The rule is matched here, once, so that in each arm the loop has constants for what it looks at.
+// Every cell begins. The rule is matched here, once, so that in each arm the loop has types for what it looks at.
 // A search from one cell begins by filling.
 pub fn begin_cells(
     search: Search,
@@ -141,23 +133,11 @@ pub fn begin_cells(
     let rule = search.rule;
     let limit = search.limit;
     match rule {
-        Rule::Plain => begin_each(
-            search,
-            FROM_PLAIN_TARGETS,
-            false,
-            limit,
-            targets,
-            times,
-            values,
-            distances,
-            carried,
-            marks,
-            queue,
+        Rule::Plain => begin_each::<PlainTargets, false>(
+            search, limit, targets, times, values, distances, carried, marks, queue,
         ),
-        Rule::Obstacles(_) => begin_each(
+        Rule::Obstacles(_) => begin_each::<AnyTargets, false>(
             search,
-            FROM_TARGETS,
-            false,
             infinity(),
             targets,
             times,
@@ -167,23 +147,11 @@ pub fn begin_cells(
             marks,
             queue,
         ),
-        Rule::HalfSum => begin_each(
-            search,
-            FROM_TRAVEL_TARGETS,
-            false,
-            limit,
-            targets,
-            times,
-            values,
-            distances,
-            carried,
-            marks,
-            queue,
+        Rule::HalfSum => begin_each::<TravelTargets, false>(
+            search, limit, targets, times, values, distances, carried, marks, queue,
         ),
-        Rule::Closest => begin_each(
+        Rule::Closest => begin_each::<ClosestTargets, true>(
             search,
-            FROM_CLOSEST_TARGETS,
-            true,
             above_all(search.size),
             targets,
             times,
@@ -193,18 +161,8 @@ pub fn begin_cells(
             marks,
             queue,
         ),
-        Rule::ByTime => begin_each(
-            search,
-            FROM_VALUED_TARGETS,
-            true,
-            limit,
-            targets,
-            times,
-            values,
-            distances,
-            carried,
-            marks,
-            queue,
+        Rule::ByTime => begin_each::<ValuedTargets, true>(
+            search, limit, targets, times, values, distances, carried, marks, queue,
         ),
         Rule::FromMaskCell(origin) => {
             begin_from(origin, infinity(), times, distances, marks, queue)

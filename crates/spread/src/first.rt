@@ -1,8 +1,9 @@
 // What a cell begins with, in a search from targets.
-ghost use Rattle.std.specs.Prelude.{◌≡◌, T, suc};
+ghost use Rattle.std.specs.Prelude.{◌≡◌, T, ℕ, suc};
 ghost use Rattle.rules.specs.Sizes.{in_bounds, count};
-ghost use Rattle.rules.specs.Numbers as number;
+ghost use Rattle.rules.specs.Numbers.{target_byte, whole};
 ghost use Rattle.spread.specs.First.{NeverEntered, FromStart, FromTarget, FromPlainTarget, FromTravelTarget, FromValuedTarget, Reads, FirstFrom};
+ghost use Rattle.spread.specs.First.{from_plain_targets, from_targets, from_travel_targets, from_closest_targets, from_valued_targets};
 
 use binary32::{is_nodata, nan, one_nan};
 use cells::cell_count;
@@ -21,7 +22,7 @@ pub struct First {
 
 // Whether a target byte marks a target: it is nonzero, and not nodata.
 pub fn is_target(byte: u8) -> bool
-    ensures { result ≡ number.target_byte byte }
+    ensures { result ≡ target_byte byte }
 {
     byte != 0 && byte != NODATA_BYTE
 }
@@ -95,50 +96,77 @@ fn from_valued_target(byte: u8, value: f32, cap: f32) -> First
 // A distance above any that a grid of this size has, as a float: one more than its number of cells.
 pub fn above_all(size: Size) -> f32
     requires { T (in_bounds size) }
-    ensures { result ≡ number.whole (suc (count size)) }
+    ensures { result ≡ whole (suc (count size)) }
 {
     let cells = cell_count(size) + 1;
     cells as f32
 }
 
-// From which targets a search begins, by number: those of search 1, of 2, of 3, of 4, and of 5 and 6. The loop has
-// the number as a constant.
-pub const FROM_PLAIN_TARGETS: u8 = 0;
+// From which targets a search begins, which the loop has as a type: `FirstFrom` in specs/First.antt says what a cell
+// begins with from those of a number.
+pub trait Targets {
+    ghost number: { ℕ };
 
-pub const FROM_TARGETS: u8 = 1;
+    // What a cell begins with.
+    fn first_label(cap: f32, targets: &[u8], times: &[f32], values: &[f32], cell: u32) -> First
+        requires { Reads number targets.now times.now values.now cell }
+        ensures { FirstFrom number cap targets.now times.now values.now cell result };
+}
 
-pub const FROM_TRAVEL_TARGETS: u8 = 2;
+// The targets of search 1.
+pub struct PlainTargets;
 
-pub const FROM_CLOSEST_TARGETS: u8 = 3;
+impl Targets for PlainTargets {
+    ghost number = { from_plain_targets };
 
-pub const FROM_VALUED_TARGETS: u8 = 4;
-
-// What a cell begins with.
-pub fn first_label(
-    from: u8,
-    cap: f32,
-    targets: &[u8],
-    times: &[f32],
-    values: &[f32],
-    cell: u32,
-) -> First
-    requires { Reads from targets.now times.now values.now cell }
-    ensures { FirstFrom from cap targets.now times.now values.now cell result }
-{
-    let at = cell as usize;
-    let byte = targets[at];
-    if from == FROM_PLAIN_TARGETS {
-        return from_plain_target(byte, cap);
+    fn first_label(cap: f32, targets: &[u8], _times: &[f32], _values: &[f32], cell: u32) -> First {
+        from_plain_target(targets[cell as usize], cap)
     }
-    if from == FROM_TARGETS {
-        return from_target(byte, 0.0, cap);
+}
+
+// Those of search 2.
+pub struct AnyTargets;
+
+impl Targets for AnyTargets {
+    ghost number = { from_targets };
+
+    fn first_label(cap: f32, targets: &[u8], _times: &[f32], _values: &[f32], cell: u32) -> First {
+        from_target(targets[cell as usize], 0.0, cap)
     }
-    if from == FROM_TRAVEL_TARGETS {
-        return from_travel_target(byte, times[at], cap);
+}
+
+// Those of search 3.
+pub struct TravelTargets;
+
+impl Targets for TravelTargets {
+    ghost number = { from_travel_targets };
+
+    fn first_label(cap: f32, targets: &[u8], times: &[f32], _values: &[f32], cell: u32) -> First {
+        let at = cell as usize;
+        from_travel_target(targets[at], times[at], cap)
     }
-    if from == FROM_CLOSEST_TARGETS {
-        return from_target(byte, one_nan(values[at]), cap);
+}
+
+// Those of search 4.
+pub struct ClosestTargets;
+
+impl Targets for ClosestTargets {
+    ghost number = { from_closest_targets };
+
+    fn first_label(cap: f32, targets: &[u8], _times: &[f32], values: &[f32], cell: u32) -> First {
+        let at = cell as usize;
+        from_target(targets[at], one_nan(values[at]), cap)
     }
-    // FROM_VALUED_TARGETS is the last.
-    from_valued_target(byte, values[at], cap)
+}
+
+// Those of searches 5 and 6.
+pub struct ValuedTargets;
+
+impl Targets for ValuedTargets {
+    ghost number = { from_valued_targets };
+
+    fn first_label(cap: f32, targets: &[u8], _times: &[f32], values: &[f32], cell: u32) -> First {
+        let at = cell as usize;
+        from_valued_target(targets[at], values[at], cap)
+    }
 }

@@ -1,15 +1,16 @@
 // The candidate for a cell that is entered: each rule's formula, with one rounding for each operation.
-ghost use Rattle.std.specs.Prelude.{◌≡◌, cond, not};
+ghost use Rattle.std.specs.Prelude.{◌≡◌, ℕ, cond, not};
 ghost use Rattle.std.specs.Float.Ieee as Ieee;
 ghost use Rattle.binary32.specs.Nodata.{nodata};
 ghost use Rattle.binary32.specs.Numbers.{two};
-ghost use Rattle.rules.specs.Numbers as number;
+ghost use Rattle.rules.specs.Numbers.{quarter_of_largest};
+ghost use Rattle.rules.specs.declared.Size.{Size};
 ghost use Rattle.rules.specs.Sizes.{grid};
+ghost use Rattle.spread.specs.Nets.{by_step, by_half_sum, by_time, by_time_or_quarter};
 ghost use Rattle.spread.specs.Steps.{formula_by, Timed};
 
 use crate::relax::Left;
 use binary32::is_nodata;
-use rules::Size;
 
 // A step of length s further from distance d.
 fn plus_step(d: f32, s: f32) -> f32
@@ -34,7 +35,7 @@ fn plus_time(d: f32, s: f32, b: f32) -> f32
 
 // The time, or the largest f32 divided by 4 where it is nodata.
 fn time_or_quarter(time: f32) -> f32
-    ensures { result ≡ cond (not (nodata time)) time number.quarter_of_largest }
+    ensures { result ≡ cond (not (nodata time)) time quarter_of_largest }
 {
     if is_nodata(time) {
         return 3.4028235e38 / 4.0;
@@ -42,31 +43,60 @@ fn time_or_quarter(time: f32) -> f32
     time
 }
 
-// The formulas by number. The loop has the number as a constant.
-pub const PLUS_STEP: u8 = 0;
+// A formula, which the loop has as a type: `formula_by` in specs/Steps.antt says what the one of a number gives.
+pub trait Formula {
+    ghost number: { ℕ };
 
-pub const PLUS_HALF_SUM: u8 = 1;
+    // The distance over a step from the cell that is left to another.
+    fn candidate(times: &[f32], left: Left, step: f32, cell: u32) -> f32
+        requires { Timed number times.now left.cell cell }
+        ensures { (size : Size) → result ≡ formula_by number (grid size times.now) left.cell step cell left.distance };
+}
 
-pub const PLUS_TIME: u8 = 2;
+// d + s.
+pub struct PlusStep;
 
-pub const PLUS_TIME_OR_QUARTER: u8 = 3;
+impl Formula for PlusStep {
+    ghost number = { by_step };
 
-// The distance over a step from the cell that is left to another, by a formula.
-pub fn candidate(formula: u8, times: &[f32], left: Left, step: f32, cell: u32) -> f32
-    requires { Timed formula times.now left.cell cell }
-    ensures { (size : Size) → result ≡ formula_by formula (grid size times.now) left.cell step cell left.distance }
-{
-    let from = left.cell as usize;
-    let to = cell as usize;
-    if formula == PLUS_STEP {
-        return plus_step(left.distance, step);
+    fn candidate(_times: &[f32], left: Left, step: f32, _cell: u32) -> f32 {
+        plus_step(left.distance, step)
     }
-    if formula == PLUS_HALF_SUM {
-        return plus_half_sum(left.distance, step, times[from], times[to]);
+}
+
+// d + (s / 2) * (a + b).
+pub struct PlusHalfSum;
+
+impl Formula for PlusHalfSum {
+    ghost number = { by_half_sum };
+
+    fn candidate(times: &[f32], left: Left, step: f32, cell: u32) -> f32 {
+        let from = left.cell as usize;
+        let to = cell as usize;
+        plus_half_sum(left.distance, step, times[from], times[to])
     }
-    if formula == PLUS_TIME {
-        return plus_time(left.distance, step, times[to]);
+}
+
+// d + s * b.
+pub struct PlusTime;
+
+impl Formula for PlusTime {
+    ghost number = { by_time };
+
+    fn candidate(times: &[f32], left: Left, step: f32, cell: u32) -> f32 {
+        let to = cell as usize;
+        plus_time(left.distance, step, times[to])
     }
-    // PLUS_TIME_OR_QUARTER is the last.
-    plus_time(left.distance, step, time_or_quarter(times[to]))
+}
+
+// d + s * b, where a nodata time counts as the largest f32 divided by 4.
+pub struct PlusTimeOrQuarter;
+
+impl Formula for PlusTimeOrQuarter {
+    ghost number = { by_time_or_quarter };
+
+    fn candidate(times: &[f32], left: Left, step: f32, cell: u32) -> f32 {
+        let to = cell as usize;
+        plus_time(left.distance, step, time_or_quarter(times[to]))
+    }
 }

@@ -5,8 +5,8 @@
 // (specs/Promise.antt). Each function below it promises that the buffers hold, after it, the machine's
 // operation on the state that they held before (specs/Buffers.antt).
 //
-// `begin_cells`, `take_by_half_sum` and `take_by_time_or_quarter` are for a loop of one's own that does something
-// with each cell that is taken: proofs/Running.antt and proofs/Tracing.antt have the laws for it. Where many searches
+// `begin_cells` and `take_next` are for a loop of one's own that does something with each cell that is taken:
+// proofs/Running.antt and proofs/Tracing.antt have the laws for it. Where many searches
 // from one cell each follow one another, `begin_clear` begins once for all, and `begin_at` begins each of them, if
 // between two the cells that the last one reached are put back (`Clear` in specs/Begin.antt).
 #![tactic(auto)]
@@ -21,12 +21,14 @@ mod scan_edge;
 mod search;
 mod steps;
 mod take;
-mod take_edge;
 mod take_inner;
 mod waiting;
 
 pub use begin::{begin_at, begin_cells, begin_clear};
 pub use first::is_target;
+pub use formulas::{Formula, PlusHalfSum, PlusTimeOrQuarter};
+pub use relax::Left;
 pub use run::spread;
 pub use search::{Rule, Search};
-pub use take::{TakenCell, take_by_half_sum, take_by_time_or_quarter};
+pub use steps::{Avoids, Nothing};
+pub use take::{TakenCell, take_next};

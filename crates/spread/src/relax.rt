@@ -4,9 +4,9 @@ ghost use Rattle.spread.specs.Steps.{terrain, numbers, length_of, steps_by};
 ghost use Rattle.spread.specs.Buffers.{buffers, scanning, Does};
 ghost use Rattle.spread.specs.Loop.{left_label, Storing, Stored, Entering};
 
-use crate::formulas::candidate;
+use crate::formulas::Formula;
 use crate::search::Search;
-use crate::steps::{is_blocked, may_enter};
+use crate::steps::Avoids;
 use crate::waiting::wait;
 use binary32::{DIAGONAL, STRAIGHT};
 use cells::Ring;
@@ -20,12 +20,12 @@ pub struct Left {
 }
 
 // Stores the value that goes along, if one does.
-pub fn carry(carrying: bool, cell: u32, value: f32, carried: &mut [f32])
-    requires { carrying ≡ true → cell < length carried.old }
-    ensures { carried.new ≡ cond carrying (set carried.old cell value) carried.old }
+pub fn carry<const CARRYING: bool>(cell: u32, value: f32, carried: &mut [f32])
+    requires { CARRYING ≡ true → cell < length carried.old }
+    ensures { carried.new ≡ cond CARRYING (set carried.old cell value) carried.old }
 {
     let at = cell as usize;
-    if carrying {
+    if CARRYING {
         carried[at] = value;
     }
 }
@@ -41,8 +41,7 @@ fn step_length(diagonal: bool) -> f32
 }
 
 // A cell takes a label, and waits.
-fn store(
-    carrying: bool,
+fn store<const CARRYING: bool>(
     cell: u32,
     distance: f32,
     value: f32,
@@ -52,24 +51,21 @@ fn store(
     queue: &mut [u32],
     ring: Ring,
 ) -> Ring
-    requires { Storing carrying cell (buffers distances.old carried.old marks.old queue.old ring) }
-    ensures { Stored carrying cell distance value
+    requires { Storing CARRYING cell (buffers distances.old carried.old marks.old queue.old ring) }
+    ensures { Stored CARRYING cell distance value
         (buffers distances.old carried.old marks.old queue.old ring)
         (buffers distances.new carried.new marks.new queue.new result) }
 {
     let at = cell as usize;
     distances[at] = distance;
-    carry(carrying, cell, value, carried);
+    carry::<CARRYING>(cell, value, carried);
     wait(cell, marks, queue, ring)
 }
 
 // Tries a cell over a step: its candidate is stored if it is below the cell's distance. The obstacles beside the
 // step are looked at last, since few candidates come so far.
-pub fn relax(
+pub fn relax<F: Formula, A: Avoids, const CARRYING: bool>(
     search: Search,
-    formula: u8,
-    avoided: u8,
-    carrying: bool,
     diagonal: bool,
     obstacles: &[u8],
     times: &[f32],
@@ -81,22 +77,22 @@ pub fn relax(
     queue: &mut [u32],
     ring: Ring,
 ) -> Ring
-    requires { Entering search (numbers formula avoided carrying) (terrain obstacles.now times.now) left.cell cell (buffers distances.old carried.old marks.old queue.old ring) }
+    requires { Entering search (numbers F.number A.number CARRYING) (terrain obstacles.now times.now) left.cell cell (buffers distances.old carried.old marks.old queue.old ring) }
     ensures { Does search (scanning (left_label search left) (steps_by search (terrain obstacles.now times.now) diagonal left.cell (cell ∷ [])))
         (buffers distances.old carried.old marks.old queue.old ring)
         (buffers distances.new carried.new marks.new queue.new result) }
 {
-    if !may_enter(avoided, obstacles, cell) {
+    if !A::may_enter(obstacles, cell) {
         return ring;
     }
     let at = cell as usize;
-    let distance = candidate(formula, times, left, step_length(diagonal), cell);
+    let distance = F::candidate(times, left, step_length(diagonal), cell);
     if distances[at] > distance {
-        if is_blocked(avoided, diagonal, search.size, obstacles, left.cell, cell) {
+        if A::is_blocked(diagonal, search.size, obstacles, left.cell, cell) {
             return ring;
         }
-        return store(
-            carrying, cell, distance, left.value, distances, carried, marks, queue, ring,
+        return store::<CARRYING>(
+            cell, distance, left.value, distances, carried, marks, queue, ring,
         );
     }
     ring

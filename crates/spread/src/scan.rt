@@ -3,16 +3,15 @@ ghost use Rattle.spread.specs.Steps.{terrain, numbers};
 ghost use Rattle.spread.specs.Buffers.{buffers, scanning, Does};
 ghost use Rattle.spread.specs.Loop.{left_label, listed_steps, Scanning};
 
+use crate::formulas::Formula;
 use crate::relax::{Left, relax};
 use crate::search::Search;
+use crate::steps::Avoids;
 use cells::Ring;
 
 // Tries the listed cells before `count`: those before `straight` straight, the others diagonally.
-pub fn scan_listed(
+pub fn scan_listed<F: Formula, A: Avoids, const CARRYING: bool>(
     search: Search,
-    formula: u8,
-    avoided: u8,
-    carrying: bool,
     obstacles: &[u8],
     times: &[f32],
     left: Left,
@@ -25,21 +24,19 @@ pub fn scan_listed(
     queue: &mut [u32],
     ring: Ring,
 ) -> Ring
-    requires { Scanning search (numbers formula avoided carrying) (terrain obstacles.now times.now) left.cell cells.now straight count
+    requires { Scanning search (numbers F.number A.number CARRYING) (terrain obstacles.now times.now) left.cell cells.now straight count
         (buffers distances.old carried.old marks.old queue.old ring) }
     ensures { Does search (scanning (left_label search left) (listed_steps search (terrain obstacles.now times.now) left.cell cells.now straight count))
         (buffers distances.old carried.old marks.old queue.old ring)
         (buffers distances.new carried.new marks.new queue.new result) }
 {
     let mut waiting = ring;
-    let mut k: usize = 0;
-    while k < count {
+    for k in 0..count {
         let diagonal = straight <= k;
-        waiting = relax(
-            search, formula, avoided, carrying, diagonal, obstacles, times, left, cells[k],
-            distances, carried, marks, queue, waiting,
+        waiting = relax::<F, A, CARRYING>(
+            search, diagonal, obstacles, times, left, cells[k], distances, carried, marks, queue,
+            waiting,
         );
-        k += 1;
     }
     waiting
 }

@@ -4,16 +4,15 @@ ghost use Rattle.spread.specs.Steps.{terrain, numbers, steps_by, all_steps};
 ghost use Rattle.spread.specs.Buffers.{buffers, scanning, Does};
 ghost use Rattle.spread.specs.Loop.{left_label, EnteringThere, ScanningAll};
 
+use crate::formulas::Formula;
 use crate::relax::{Left, relax};
 use crate::search::Search;
+use crate::steps::Avoids;
 use cells::{OFFSETS, Ring, neighbour_at, place_of};
 
 // Tries what stands at an offset, if anything does.
-fn relax_there(
+fn relax_there<F: Formula, A: Avoids, const CARRYING: bool>(
     search: Search,
-    formula: u8,
-    avoided: u8,
-    carrying: bool,
     diagonal: bool,
     obstacles: &[u8],
     times: &[f32],
@@ -25,26 +24,22 @@ fn relax_there(
     queue: &mut [u32],
     ring: Ring,
 ) -> Ring
-    requires { EnteringThere search (numbers formula avoided carrying) (terrain obstacles.now times.now) left.cell there (buffers distances.old carried.old marks.old queue.old ring) }
+    requires { EnteringThere search (numbers F.number A.number CARRYING) (terrain obstacles.now times.now) left.cell there (buffers distances.old carried.old marks.old queue.old ring) }
     ensures { Does search (scanning (left_label search left) (steps_by search (terrain obstacles.now times.now) diagonal left.cell (option_to_list there)))
         (buffers distances.old carried.old marks.old queue.old ring)
         (buffers distances.new carried.new marks.new queue.new result) }
 {
     match there {
-        Some(cell) => relax(
-            search, formula, avoided, carrying, diagonal, obstacles, times, left, cell, distances,
-            carried, marks, queue, ring,
+        Some(cell) => relax::<F, A, CARRYING>(
+            search, diagonal, obstacles, times, left, cell, distances, carried, marks, queue, ring,
         ),
         None => ring,
     }
 }
 
 // Tries all neighbours.
-pub fn scan_edge(
+pub fn scan_edge<F: Formula, A: Avoids, const CARRYING: bool>(
     search: Search,
-    formula: u8,
-    avoided: u8,
-    carrying: bool,
     obstacles: &[u8],
     times: &[f32],
     left: Left,
@@ -54,22 +49,20 @@ pub fn scan_edge(
     queue: &mut [u32],
     ring: Ring,
 ) -> Ring
-    requires { ScanningAll search (numbers formula avoided carrying) (terrain obstacles.now times.now) left.cell (buffers distances.old carried.old marks.old queue.old ring) }
+    requires { ScanningAll search (numbers F.number A.number CARRYING) (terrain obstacles.now times.now) left.cell (buffers distances.old carried.old marks.old queue.old ring) }
     ensures { Does search (scanning (left_label search left) (all_steps search (terrain obstacles.now times.now) left.cell))
         (buffers distances.old carried.old marks.old queue.old ring)
         (buffers distances.new carried.new marks.new queue.new result) }
 {
     let place = place_of(search.size, left.cell);
     let mut waiting = ring;
-    let mut k: usize = 0;
-    while k < 8 {
+    for k in 0..8 {
         let diagonal = 4 <= k;
         let there = neighbour_at(search.size, place, OFFSETS[k]);
-        waiting = relax_there(
-            search, formula, avoided, carrying, diagonal, obstacles, times, left, there, distances,
-            carried, marks, queue, waiting,
+        waiting = relax_there::<F, A, CARRYING>(
+            search, diagonal, obstacles, times, left, there, distances, carried, marks, queue,
+            waiting,
         );
-        k += 1;
     }
     waiting
 }

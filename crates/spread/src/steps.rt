@@ -1,8 +1,10 @@
 // The steps that a rule permits.
-ghost use Rattle.std.specs.Prelude.{◌≡◌, false, ◌<◌, eqb, length};
+ghost use Rattle.std.specs.Prelude.{◌≡◌, false, ℕ, ◌<◌, eqb, length};
 ghost use Rattle.rules.specs.Distances as distance;
+ghost use Rattle.rules.specs.declared.Size.{Size};
 ghost use Rattle.rules.specs.Sizes.{grid};
-ghost use Rattle.spread.specs.Steps.{may_enter, blocked_by, SaysFree, Pair, Crossed, Among, MayAsk};
+ghost use Rattle.rules.specs.declared.BarrierDiagonals.TheVariants.{Include, Exclude};
+ghost use Rattle.spread.specs.Steps.{avoided_with, may_enter, blocked_by, SaysFree, Pair, Crossed, Among, MayAsk};
 
 use rules::{BarrierDiagonals, Size};
 
@@ -37,43 +39,66 @@ fn is_between_obstacles(size: Size, obstacles: &[u8], from: u32, to: u32) -> boo
     !is_free(obstacles, other)
 }
 
-// What is avoided, by number: nothing; obstacles; and diagonal steps between two of them too. The loop has the
-// number as a constant.
-pub const NOTHING: u8 = 0;
+// What a search avoids, which the loop has as a type: `may_enter` and `blocked_by` in specs/Steps.antt say what that of
+// a number permits.
+pub trait Avoids {
+    ghost number: { ℕ };
 
-pub const OBSTACLES: u8 = 1;
+    // Whether a step may enter a cell.
+    fn may_enter(obstacles: &[u8], to: u32) -> bool
+        requires { eqb number 0 ≡ false → to < length obstacles.now }
+        ensures { (size : Size) → result ≡ may_enter number (grid size obstacles.now) to };
 
-pub const BETWEEN_OBSTACLES: u8 = 2;
-
-// Whether a step may enter a cell.
-pub fn may_enter(avoided: u8, obstacles: &[u8], to: u32) -> bool
-    requires { eqb avoided 0 ≡ false → to < length obstacles.now }
-    ensures { (size : Size) → result ≡ may_enter avoided (grid size obstacles.now) to }
-{
-    if avoided == NOTHING {
-        return true;
-    }
-    // OBSTACLES and BETWEEN_OBSTACLES.
-    is_free(obstacles, to)
+    // Whether a step is refused for the cells beside it.
+    fn is_blocked(diagonal: bool, size: Size, obstacles: &[u8], from: u32, to: u32) -> bool
+        requires { MayAsk number size obstacles.now from to }
+        ensures { result ≡ blocked_by number diagonal (grid size obstacles.now) from to };
 }
 
-// Whether a step is refused for the cells beside it.
-pub fn is_blocked(
-    avoided: u8,
-    diagonal: bool,
-    size: Size,
-    obstacles: &[u8],
-    from: u32,
-    to: u32,
-) -> bool
-    requires { MayAsk avoided size obstacles.now from to }
-    ensures { result ≡ blocked_by avoided diagonal (grid size obstacles.now) from to }
-{
-    if avoided != BETWEEN_OBSTACLES {
-        return false;
+// Nothing is avoided.
+pub struct Nothing;
+
+impl Avoids for Nothing {
+    ghost number = { 0 };
+
+    fn may_enter(_obstacles: &[u8], _to: u32) -> bool {
+        true
     }
-    if !diagonal {
-        return false;
+
+    fn is_blocked(_diagonal: bool, _size: Size, _obstacles: &[u8], _from: u32, _to: u32) -> bool {
+        false
     }
-    is_between_obstacles(size, obstacles, from, to)
+}
+
+// Obstacles are.
+pub struct Obstacles;
+
+impl Avoids for Obstacles {
+    ghost number = { avoided_with Include };
+
+    fn may_enter(obstacles: &[u8], to: u32) -> bool {
+        is_free(obstacles, to)
+    }
+
+    fn is_blocked(_diagonal: bool, _size: Size, _obstacles: &[u8], _from: u32, _to: u32) -> bool {
+        false
+    }
+}
+
+// Obstacles are, and diagonal steps between two of them.
+pub struct BetweenObstacles;
+
+impl Avoids for BetweenObstacles {
+    ghost number = { avoided_with Exclude };
+
+    fn may_enter(obstacles: &[u8], to: u32) -> bool {
+        is_free(obstacles, to)
+    }
+
+    fn is_blocked(diagonal: bool, size: Size, obstacles: &[u8], from: u32, to: u32) -> bool {
+        if !diagonal {
+            return false;
+        }
+        is_between_obstacles(size, obstacles, from, to)
+    }
 }

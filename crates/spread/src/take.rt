@@ -1,14 +1,14 @@
 // One take: the cell that waited longest is taken, and its neighbours are tried. A cell at no edge goes a faster way.
-ghost use Rattle.spread.specs.Steps.{terrain, numbers, half_sum_numbers, time_or_quarter_numbers};
+ghost use Rattle.spread.specs.Steps.{terrain, numbers};
 ghost use Rattle.spread.specs.Buffers.{buffers};
 ghost use Rattle.spread.specs.Loop.{CanLeave, LeftCell, Looking, SaysNextInner, TakingBy, TakingInner, TookCell};
 
-use crate::formulas::{PLUS_HALF_SUM, PLUS_TIME_OR_QUARTER};
+use crate::formulas::Formula;
 use crate::relax::Left;
 use crate::scan::scan_listed;
 use crate::scan_edge::scan_edge;
 use crate::search::Search;
-use crate::steps::NOTHING;
+use crate::steps::Avoids;
 use crate::waiting::take_first;
 use cells::{Ring, interior_neighbours, is_interior};
 use rules::Size;
@@ -22,13 +22,13 @@ pub struct TakenCell {
 }
 
 // The label of a cell: its distance, and the value that goes along if one does.
-fn leave(carrying: bool, distances: &[f32], carried: &[f32], cell: u32) -> Left
-    requires { CanLeave carrying distances.now carried.now cell }
-    ensures { LeftCell carrying distances.now carried.now cell result }
+fn leave<const CARRYING: bool>(distances: &[f32], carried: &[f32], cell: u32) -> Left
+    requires { CanLeave CARRYING distances.now carried.now cell }
+    ensures { LeftCell CARRYING distances.now carried.now cell result }
 {
     let at = cell as usize;
     let distance = distances[at];
-    if carrying {
+    if CARRYING {
         return Left {
             cell,
             distance,
@@ -55,11 +55,8 @@ pub fn is_next_inner(size: Size, queue: &[u32], ring: Ring) -> bool
 }
 
 // Takes the next cell, which is at no edge.
-pub fn take_inner_cell(
+pub fn take_inner_cell<F: Formula, A: Avoids, const CARRYING: bool>(
     search: Search,
-    formula: u8,
-    avoided: u8,
-    carrying: bool,
     obstacles: &[u8],
     times: &[f32],
     distances: &mut [f32],
@@ -68,20 +65,17 @@ pub fn take_inner_cell(
     queue: &mut [u32],
     ring: Ring,
 ) -> TakenCell
-    requires { TakingInner search (numbers formula avoided carrying) (terrain obstacles.now times.now) (buffers distances.old carried.old marks.old queue.old ring) }
+    requires { TakingInner search (numbers F.number A.number CARRYING) (terrain obstacles.now times.now) (buffers distances.old carried.old marks.old queue.old ring) }
     ensures { TookCell search (terrain obstacles.now times.now)
         (buffers distances.old carried.old marks.old queue.old ring)
         (buffers distances.new carried.new marks.new queue.new result.ring) result }
 {
     let mut rest = ring;
     let cell = take_first(marks, queue, &mut rest);
-    let left = leave(carrying, distances, carried, cell);
+    let left = leave::<CARRYING>(distances, carried, cell);
     let around = interior_neighbours(search.size, cell);
-    let waiting = scan_listed(
+    let waiting = scan_listed::<F, A, CARRYING>(
         search,
-        formula,
-        avoided,
-        carrying,
         obstacles,
         times,
         left,
@@ -102,11 +96,8 @@ pub fn take_inner_cell(
 }
 
 // Takes the next cell, at an edge or not.
-pub fn take_edge_cell(
+pub fn take_edge_cell<F: Formula, A: Avoids, const CARRYING: bool>(
     search: Search,
-    formula: u8,
-    avoided: u8,
-    carrying: bool,
     obstacles: &[u8],
     times: &[f32],
     distances: &mut [f32],
@@ -115,17 +106,16 @@ pub fn take_edge_cell(
     queue: &mut [u32],
     ring: Ring,
 ) -> TakenCell
-    requires { TakingBy search (numbers formula avoided carrying) (terrain obstacles.now times.now) (buffers distances.old carried.old marks.old queue.old ring) }
+    requires { TakingBy search (numbers F.number A.number CARRYING) (terrain obstacles.now times.now) (buffers distances.old carried.old marks.old queue.old ring) }
     ensures { TookCell search (terrain obstacles.now times.now)
         (buffers distances.old carried.old marks.old queue.old ring)
         (buffers distances.new carried.new marks.new queue.new result.ring) result }
 {
     let mut rest = ring;
     let cell = take_first(marks, queue, &mut rest);
-    let left = leave(carrying, distances, carried, cell);
-    let waiting = scan_edge(
-        search, formula, avoided, carrying, obstacles, times, left, distances, carried, marks,
-        queue, rest,
+    let left = leave::<CARRYING>(distances, carried, cell);
+    let waiting = scan_edge::<F, A, CARRYING>(
+        search, obstacles, times, left, distances, carried, marks, queue, rest,
     );
     TakenCell {
         cell,
@@ -134,8 +124,8 @@ pub fn take_edge_cell(
     }
 }
 
-// Takes the next cell where the formula is half the step times the sum of both times.
-pub fn take_by_half_sum(
+// Takes the next cell, the faster way if it is at no edge.
+pub fn take_next<F: Formula, A: Avoids, const CARRYING: bool>(
     search: Search,
     obstacles: &[u8],
     times: &[f32],
@@ -145,83 +135,17 @@ pub fn take_by_half_sum(
     queue: &mut [u32],
     ring: Ring,
 ) -> TakenCell
-    requires { TakingBy search half_sum_numbers (terrain obstacles.now times.now) (buffers distances.old carried.old marks.old queue.old ring) }
+    requires { TakingBy search (numbers F.number A.number CARRYING) (terrain obstacles.now times.now) (buffers distances.old carried.old marks.old queue.old ring) }
     ensures { TookCell search (terrain obstacles.now times.now)
         (buffers distances.old carried.old marks.old queue.old ring)
         (buffers distances.new carried.new marks.new queue.new result.ring) result }
 {
     if is_next_inner(search.size, queue, ring) {
-        return take_inner_cell(
-            search,
-            PLUS_HALF_SUM,
-            NOTHING,
-            false,
-            obstacles,
-            times,
-            distances,
-            carried,
-            marks,
-            queue,
-            ring,
+        return take_inner_cell::<F, A, CARRYING>(
+            search, obstacles, times, distances, carried, marks, queue, ring,
         );
     }
-    take_edge_cell(
-        search,
-        PLUS_HALF_SUM,
-        NOTHING,
-        false,
-        obstacles,
-        times,
-        distances,
-        carried,
-        marks,
-        queue,
-        ring,
-    )
-}
-
-// Takes the next cell where it is the step times the time, which may be nodata.
-pub fn take_by_time_or_quarter(
-    search: Search,
-    obstacles: &[u8],
-    times: &[f32],
-    distances: &mut [f32],
-    carried: &mut [f32],
-    marks: &mut [u8],
-    queue: &mut [u32],
-    ring: Ring,
-) -> TakenCell
-    requires { TakingBy search time_or_quarter_numbers (terrain obstacles.now times.now) (buffers distances.old carried.old marks.old queue.old ring) }
-    ensures { TookCell search (terrain obstacles.now times.now)
-        (buffers distances.old carried.old marks.old queue.old ring)
-        (buffers distances.new carried.new marks.new queue.new result.ring) result }
-{
-    if is_next_inner(search.size, queue, ring) {
-        return take_inner_cell(
-            search,
-            PLUS_TIME_OR_QUARTER,
-            NOTHING,
-            false,
-            obstacles,
-            times,
-            distances,
-            carried,
-            marks,
-            queue,
-            ring,
-        );
-    }
-    take_edge_cell(
-        search,
-        PLUS_TIME_OR_QUARTER,
-        NOTHING,
-        false,
-        obstacles,
-        times,
-        distances,
-        carried,
-        marks,
-        queue,
-        ring,
+    take_edge_cell::<F, A, CARRYING>(
+        search, obstacles, times, distances, carried, marks, queue, ring,
     )
 }

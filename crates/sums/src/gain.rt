@@ -7,7 +7,7 @@ ghost use Rattle.sums.specs.Gain as gains;
 ghost use Rattle.sums.specs.Gain.{InAnswer, GainedCell, Gaining, GainedAll};
 
 use cells::Ring;
-use spread::{Search, take_by_time_or_quarter};
+use spread::{Nothing, PlusTimeOrQuarter, Search, take_next};
 
 // The mark of a cell that has gained the amount.
 pub const ADDED: u8 = 1;
@@ -61,7 +61,7 @@ pub fn run_gaining(
     let mut waiting = ring;
     let mut takes: u64 = 0;
     while !waiting.is_empty() {
-        let took = take_by_time_or_quarter(
+        let took = take_next::<PlusTimeOrQuarter, Nothing, false>(
             search, obstacles, times, distances, carried, marks, queue, waiting,
         );
         waiting = took.ring;

@@ -5,7 +5,7 @@ ghost use Rattle.sums.specs.Listed.{Lists, ListedAll};
 
 use cells::Ring;
 use reach::list_cell;
-use spread::{Search, take_by_half_sum};
+use spread::{Nothing, PlusHalfSum, Search, take_next};
 
 // How many cells a search took, and how many are listed.
 #[derive(Clone, Copy)]
@@ -37,7 +37,7 @@ pub fn run_listing(
     let mut takes: u64 = 0;
     let mut entries: usize = 0;
     while !waiting.is_empty() {
-        let took = take_by_half_sum(
+        let took = take_next::<PlusHalfSum, Nothing, false>(
             search, obstacles, times, distances, carried, marks, queue, waiting,
         );
         waiting = took.ring;

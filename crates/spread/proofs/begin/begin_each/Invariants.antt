@@ -1,5 +1,5 @@
 use mathlib.Core.Path.{◌≡◌}
-use Prim.Native.Nat.{◌≤◌, ◌-◌}
+use Rattle.std.specs.Prelude.{not, eqb}
 use Rattle.rules.specs.Sizes.{count}
 use Rattle.spread.specs.declared.search.Search.{Search}
 use Rattle.spread.specs.Buffers.{buffers}
@@ -7,9 +7,5 @@ use Rattle.spread.specs.Begin.{BeginsEach, BeganTo}
 use Rattle.spread.proofs.begin.begin_each.Given as goal
 
 abbrev pub invariant-loop-cell : goal.invariant-loop-cell
-invariant-loop-cell l = (l.cell ≤ l.end)
-    × ((search : Search) → l.end ≡ count search.size → BeginsEach search l.from l.carrying l.cap l.targets l.times l.values l.initial.distances l.initial.carried l.initial.marks l.initial.queue
-    → BeganTo search l.targets l.times l.values l.cell l.initial.carried (buffers l.distances l.carried l.marks l.queue l.ring))
-
-abbrev pub decreases-loop-cell : goal.decreases-loop-cell
-decreases-loop-cell l = l.end - l.cell
+invariant-loop-cell g l = (search : Search) → l.end ≡ count search.size → BeginsEach search g.K.Targets.number (not (eqb g.row.CARRYING 0)) l.cap l.targets l.times l.values l.initial.distances l.initial.carried l.initial.marks l.initial.queue
+    → BeganTo search l.targets l.times l.values l.cell l.initial.carried (buffers l.distances l.carried l.marks l.queue l.ring)

@@ -5,18 +5,18 @@ use Rattle.spread.proofs.Making.{taking_next, none_took, one_took, more_took, ra
 use Rattle.spread.proofs.run.run.Goals as goal
 
 pub loop-takes-init : goal.loop-takes-init
-loop-takes-init c = none_took c.requires.good
+loop-takes-init g c = none_took c.requires.runs.good
 
 pub returns-then-is_empty : goal.returns-then-is_empty
-returns-then-is_empty c = ran_empty (more_took c.loop-takes.invariant refl c.take_inner_by_rule-some.ensures) c.is_empty.ensures c.if-is_empty.true
+returns-then-is_empty g c = ran_empty (more_took c.loop-takes.invariant refl c.take_inner-some.ensures) c.is_empty.ensures c.if-is_empty.true
 
 pub loop-takes-preserved-then-takes-most : goal.loop-takes-preserved-then-takes-most
-loop-takes-preserved-then-takes-most c =
-    let so_far = more_took c.loop-takes.invariant refl c.take_inner_by_rule-some.ensures in
-    one_took so_far c.if-takes-most.true (taking_next so_far.made.good c.requires.setting c.is_empty.ensures c.if-is_empty.false).some c.take_edge_by_rule-took.ensures
+loop-takes-preserved-then-takes-most g c =
+    let so_far = more_took c.loop-takes.invariant refl c.take_inner-some.ensures in
+    one_took so_far c.if-takes-most.true (taking_next so_far.made.good c.requires.runs.setting c.is_empty.ensures c.if-is_empty.false).some c.take_edge_cell-took.ensures
 
 pub loop-takes-preserved : goal.loop-takes-preserved
-loop-takes-preserved c = more_took c.loop-takes.invariant refl c.take_inner_by_rule-some.ensures
+loop-takes-preserved g c = more_took c.loop-takes.invariant refl c.take_inner-some.ensures
 
 pub returns : goal.returns
-returns c = ran_all c.loop-takes.invariant (ap (λ n. n * n) c.cell_count-cells.ensures) c.requires.ready c.loop-takes-test.false
+returns g c = ran_all c.loop-takes.invariant (ap (λ n. n * n) c.cell_count-cells.ensures) c.requires.runs.ready c.loop-takes-test.false

@@ -2,8 +2,8 @@
 use Rattle.spread.proofs.Running.{begun_runs, spread_ends}
 use Rattle.spread.proofs.run.spread.Goals as goal
 
-pub run-requires : goal.run-requires
-run-requires c = begun_runs c.requires c.begin_cells-ring.ensures
+pub run_by_rule-requires : goal.run_by_rule-requires
+run_by_rule-requires c = begun_runs c.requires c.begin_cells-ring.ensures
 
 pub returns : goal.returns
-returns c = spread_ends c.requires c.begin_cells-ring.ensures c.run.ensures
+returns c = spread_ends c.requires c.begin_cells-ring.ensures c.run_by_rule.ensures

@@ -5,16 +5,16 @@ use Rattle.spread.proofs.EdgeScans.{none_led, one_led, from_place, led, enters_t
 use Rattle.spread.proofs.scan_edge.scan_edge.Goals as goal
 
 pub loop-k-init : goal.loop-k-init
-loop-k-init c = (omega arith, none_led c.args.search (terrain c.args.obstacles.now c.args.times.now) c.args.left c.requires.good)
+loop-k-init g c = none_led c.args.search (terrain c.args.obstacles.now c.args.times.now) c.args.left c.requires.good
 
 pub neighbour_at-there-requires : goal.neighbour_at-there-requires
-neighbour_at-there-requires c = from_place c.requires c.requires.good c.place_of-place.ensures c.loop-k.k c.loop-k-test.true
+neighbour_at-there-requires g c = from_place c.requires c.requires.good c.place_of-place.ensures c.loop-k.k c.loop-k-test.true
 
 pub relax_there-waiting-requires : goal.relax_there-waiting-requires
-relax_there-waiting-requires c = enters_there c.requires c.loop-k.invariant.1.good c.place_of-place.ensures c.loop-k.k c.loop-k-test.true c.neighbour_at-there.ensures
+relax_there-waiting-requires g c = enters_there c.requires c.loop-k.invariant.good c.place_of-place.ensures c.loop-k.k c.loop-k-test.true c.neighbour_at-there.ensures
 
 pub loop-k-preserved : goal.loop-k-preserved
-loop-k-preserved c =
+loop-k-preserved g c =
     let at = c.loop-k in
     let below = c.loop-k-test.true in
-    (omega arith, one_led c.args.search (terrain c.args.obstacles.now c.args.times.now) c.args.left at.k below (led c.requires c.requires.good c.place_of-place.ensures at.k below c.neighbour_at-there.ensures) at.invariant.1 c.relax_there-waiting.ensures)
+    one_led c.args.search (terrain c.args.obstacles.now c.args.times.now) c.args.left at.k below (led c.requires c.requires.good c.place_of-place.ensures at.k below c.neighbour_at-there.ensures) at.invariant c.relax_there-waiting.ensures

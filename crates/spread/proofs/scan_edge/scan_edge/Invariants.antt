@@ -1,4 +1,3 @@
-use Prim.Native.Nat.{◌-◌, ◌≤◌}
 use Rattle.spread.specs.Steps.{terrain}
 use Rattle.spread.specs.Buffers.{buffers, scanning, Does}
 use Rattle.spread.specs.Loop.{left_label}
@@ -6,9 +5,5 @@ use Rattle.spread.proofs.EdgeScans.{first_steps}
 use Rattle.spread.proofs.scan_edge.scan_edge.Given as goal
 
 abbrev pub invariant-loop-k : goal.invariant-loop-k
-invariant-loop-k l = (l.k ≤ 8)
-    × Does l.search (scanning (left_label l.search l.left) (first_steps l.search (terrain l.obstacles l.times) l.left.cell l.k))
+invariant-loop-k g l = Does l.search (scanning (left_label l.search l.left) (first_steps l.search (terrain l.obstacles l.times) l.left.cell l.k))
     (buffers l.initial.distances l.initial.carried l.initial.marks l.initial.queue l.initial.waiting) (buffers l.distances l.carried l.marks l.queue l.waiting)
-
-abbrev pub decreases-loop-k : goal.decreases-loop-k
-decreases-loop-k l = 8 - l.k

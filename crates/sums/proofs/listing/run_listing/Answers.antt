@@ -10,7 +10,7 @@ pub loop-search-smaller : goal.loop-search-smaller
 loop-search-smaller c = (take_counted c.loop-search.invariant.turn c.is_empty.ensures c.loop-search-test.true-raw c.requires.running).1
 
 pub loop-search-preserved : goal.loop-search-preserved
-loop-search-preserved c = next_listed c.loop-search.invariant c.is_empty.ensures c.loop-search-test.true-raw c.take_by_half_sum-took.ensures c.list_cell-entries.ensures
+loop-search-preserved c = next_listed c.loop-search.invariant c.is_empty.ensures c.loop-search-test.true-raw c.take_next-took.ensures c.list_cell-entries.ensures
 
 pub returns : goal.returns
 returns c = listed_all c.loop-search.invariant c.is_empty.ensures c.loop-search-test.false-raw
