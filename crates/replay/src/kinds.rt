@@ -58,30 +58,20 @@ impl Search {
     pub fn has_times(self) -> bool
         ensures { IsTrue result ↔ ((number_of self ≡ 3) ⊎ (5 ≤ number_of self)) }
     {
-        match self {
-            Search::DistancesUpTo | Search::DistanceWithObstacles | Search::ValueAtClosestTarget =>
-                false,
-            Search::TravelDistancesUpTo
-            | Search::ValueAtClosestTravelTarget
-            | Search::ValueAtClosestLessThanTravelTarget
-            | Search::SumWithinTravelDistance
-            | Search::SumTargetsWithinTravelDistance => true,
-        }
+        !matches!(
+            self,
+            Search::DistancesUpTo | Search::DistanceWithObstacles | Search::ValueAtClosestTarget
+        )
     }
 
     // Whether the search has a grid of values, and is lent distances beside its answer.
     pub fn has_values(self) -> bool
         ensures { IsTrue result ↔ (4 ≤ number_of self) }
     {
-        match self {
-            Search::DistancesUpTo | Search::DistanceWithObstacles | Search::TravelDistancesUpTo =>
-                false,
-            Search::ValueAtClosestTarget
-            | Search::ValueAtClosestTravelTarget
-            | Search::ValueAtClosestLessThanTravelTarget
-            | Search::SumWithinTravelDistance
-            | Search::SumTargetsWithinTravelDistance => true,
-        }
+        !matches!(
+            self,
+            Search::DistancesUpTo | Search::DistanceWithObstacles | Search::TravelDistancesUpTo
+        )
     }
 
     // Whether the search is lent two lists of cells.

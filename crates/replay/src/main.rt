@@ -1,7 +1,8 @@
 // Runs the oracle's stored answers through the library and compares every bit: a line for each file.
 #![tactic(auto)]
 
-ghost use Rattle.std.specs.Prelude.{◌≡◌, ◌≤◌, ◌<◌, length, IfOk};
+ghost use Rattle.std.specs.Prelude.{◌≡◌, ◌≤◌, ◌<◌, length, take, IfOk};
+ghost use Rattle.std.specs.Io.KnownBytes.{Consumes, IsAtEnd};
 ghost use Rattle.replay.specs.Reading.{GoesOn};
 
 mod answers;
@@ -102,13 +103,16 @@ fn text_buffer() -> [u8; 524_288]
 }
 
 // Reads until the buffer is full or the file ends, and answers how many bytes it put at the
-// buffer's start.
-fn read_full<F: Read>(file: &mut F, buffer: &mut [u8]) -> io::Result<usize>
-    ensures { IfOk result (λ n. n ≤ length buffer.new) }
+// buffer's start. (std's `read_exact` does not tell how many there were, and `read_to_end` fills a
+// `Vec`. `haul` has the same loop: no library here reads, and a crate for this alone is no plainer.)
+fn read_full<R: Read>(reader: &mut R, buffer: &mut [u8]) -> io::Result<usize>
+    ensures fits { IfOk result (λ n. n ≤ length buffer.new) }
+    ensures read { IfOk result (λ n. Consumes (R.remaining reader.old) (R.remaining reader.new) (take n buffer.new)) }
+    ensures all { IfOk result (λ n. n < length buffer.new → IsAtEnd (R.remaining reader.new)) }
 {
     let mut done = 0;
     while done < buffer.len() {
-        let read = file.read(&mut buffer[done..])?;
+        let read = reader.read(&mut buffer[done..])?;
         if read == 0 {
             break;
         }

@@ -46,8 +46,7 @@ fn agrees_in(search: Search, case: &Case<'_>) -> bool {
 
 // Whether the case's search agrees. A search that is not there agrees with nothing.
 pub fn agrees(case: &Case<'_>) -> bool {
-    match case.settings.search {
-        Some(search) => agrees_in(search, case),
-        None => false,
-    }
+    case.settings
+        .search
+        .is_some_and(|search| agrees_in(search, case))
 }

@@ -121,7 +121,7 @@ impl<'a> Reader<'a> {
         if self.peek() == Some(b'-') {
             return self.negative();
         }
-        let size = self.decimal(2_147_483_647)?;
+        let size = self.decimal(i32::MAX as u64)?;
         Ok(size as i32)
     }
 
@@ -132,7 +132,7 @@ impl<'a> Reader<'a> {
     {
         let mut digits = *self;
         digits.literal(b"-")?;
-        match digits.decimal(2_147_483_648) {
+        match digits.decimal(i32::MAX as u64 + 1) {
             Ok(size) if 0 < size => {
                 *self = digits;
                 Ok(below_zero(size))
