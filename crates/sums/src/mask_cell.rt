@@ -4,7 +4,7 @@ ghost use Rattle.sums.specs.FromMask.{Reaching, ReachedFrom, SumReached, Summing
 
 use crate::listing::{Reached, run_listing};
 use binary32::infinity;
-use reach::{add_adjacent, add_listed, clear_distances, clear_met, is_over_budget, list_cell};
+use reach::{Reach, add_adjacent, clear_distances, clear_met, list_cell};
 use rules::Size;
 use spread::{Rule, Search, begin_at};
 
@@ -63,21 +63,13 @@ fn reach_from(
 }
 
 // The sum of the listed cells' values, and of the values of the cells beside them if those are included.
-fn sum_reached(within: Within<'_>, distances: &[f32], listed: &[u32], met: &mut [u32]) -> f32
-    requires { Beside within.size within.values.now distances.now listed.now met.old }
-    ensures { SumReached within.entry.size within.entry.values.now distances.now listed.now within.entry.limit within.entry.include_adjacent met.new result }
+fn sum_reached(reach: Reach<'_>, listed: &[u32], include_adjacent: bool, met: &mut [u32]) -> f32
+    requires { Beside reach.size reach.values.now reach.distances.now listed.now met.old }
+    ensures { SumReached reach.entry.size reach.entry.values.now reach.entry.distances.now listed.now reach.entry.budget include_adjacent met.new result }
 {
-    let sum = add_listed(within.values, listed);
-    if within.include_adjacent {
-        return add_adjacent(
-            within.size,
-            within.values,
-            distances,
-            listed,
-            within.limit,
-            sum,
-            met,
-        );
+    let sum = reach.add_listed(listed);
+    if include_adjacent {
+        return add_adjacent(reach, listed, sum, met);
     }
     sum
 }
@@ -96,7 +88,8 @@ pub struct OverBudget {
 }
 
 // Searches from one mask cell, without a bound, and adds up what it reached. What it left is put back in either case, so
-// that the next can start.
+// that the next can start. The work buffers go along one by one: of lent slices in a struct each function would have to say that
+// they are the same slices still.
 pub fn sum_from(
     within: Within<'_>,
     start: u32,
@@ -112,8 +105,14 @@ pub fn sum_from(
 {
     let reached = reach_from(within, start, distances, marks, listed, met, queue);
     let cells = &listed[..reached.count];
-    let over = is_over_budget(distances, cells, within.limit);
-    let sum = sum_reached(within, distances, cells, met);
+    let reach = Reach {
+        size: within.size,
+        values: within.values,
+        distances,
+        budget: within.limit,
+    };
+    let over = reach.is_over_budget(cells);
+    let sum = sum_reached(reach, cells, within.include_adjacent, met);
     clear_distances(cells, infinity(), distances);
     clear_met(within.size, cells, within.include_adjacent, met);
     if over {
