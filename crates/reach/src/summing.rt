@@ -19,7 +19,7 @@ pub struct Reach<'a> {
 
 impl Reach<'_> {
     // Adds a cell's value, if it has data.
-    pub fn add_value(self, cell: u32, sum: f32) -> f32
+    pub(crate) fn add_value(self, cell: u32, sum: f32) -> f32
         requires { cell < length self.values.now }
         ensures { result ≡ add_value self.entry.values.now sum cell }
     {
@@ -44,7 +44,7 @@ impl Reach<'_> {
     }
 
     // Whether a cell's distance is above the budget.
-    pub fn is_above(self, cell: u32) -> bool
+    pub(crate) fn is_above(self, cell: u32) -> bool
         requires { cell < length self.distances.now }
         ensures { result ≡ above_budget self.entry.distances.now self.entry.budget cell }
     {
