@@ -24,7 +24,7 @@ pub const OFFSETS: [[i32; 2]; 8] = [
 pub const STRAIGHT: usize = 4;
 
 // The neighbours that there are: up to `straight` those to the sides, below and above, up to `count` the
-// diagonal ones.
+// diagonal ones. They stand in an array, by value: there is no heap.
 #[derive(Clone, Copy)]
 pub struct Neighbours {
     pub cells: [u32; 8],

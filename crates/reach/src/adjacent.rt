@@ -5,9 +5,8 @@ ghost use Rattle.rules.specs.Sums.{adjacent_offsets};
 ghost use Rattle.reach.specs.Adjacent.{Adjoins, Trying, Around, Beside, AddedAdjacent};
 
 use crate::listing::MET;
-use crate::summing::{add_value, is_above};
+use crate::summing::Reach;
 use cells::{neighbour_at, place_of};
-use rules::Size;
 
 // The offsets of the cells beside a cell, row and column each, in the order in which they are added.
 pub const ADJACENT: [[i32; 2]; 4] = [
@@ -18,67 +17,45 @@ pub const ADJACENT: [[i32; 2]; 4] = [
 ];
 
 // Adds the value of a cell that was not met and is above the budget, and notes that it is met.
-fn add_once(
-    values: &[f32],
-    distances: &[f32],
-    cell: u32,
-    budget: f32,
-    sum: f32,
-    met: &mut [u32],
-) -> f32
-    requires { Trying values.now distances.now met.old (cell ∷ []) }
-    ensures { Adjoins values.now distances.now budget (cell ∷ []) met.old sum met.new result }
+fn add_once(reach: Reach<'_>, cell: u32, sum: f32, met: &mut [u32]) -> f32
+    requires { Trying reach.values.now reach.distances.now met.old (cell ∷ []) }
+    ensures { Adjoins reach.entry.values.now reach.entry.distances.now reach.entry.budget (cell ∷ []) met.old sum met.new result }
 {
     let at = cell as usize;
     if met[at] != 0 {
         return sum;
     }
-    if !is_above(distances, cell, budget) {
+    if !reach.is_above(cell) {
         return sum;
     }
     met[at] = MET;
-    add_value(values, cell, sum)
+    reach.add_value(cell, sum)
 }
 
 // Adds the cells beside one cell: above, below, left, right, those that are in the grid.
-fn add_around(
-    size: Size,
-    cell: u32,
-    values: &[f32],
-    distances: &[f32],
-    budget: f32,
-    sum: f32,
-    met: &mut [u32],
-) -> f32
-    requires { Around size values.now distances.now met.old cell }
-    ensures { Adjoins values.now distances.now budget (neighbours size cell adjacent_offsets) met.old sum met.new result }
+fn add_around(reach: Reach<'_>, cell: u32, sum: f32, met: &mut [u32]) -> f32
+    requires { Around reach.size reach.values.now reach.distances.now met.old cell }
+    ensures { Adjoins reach.entry.values.now reach.entry.distances.now reach.entry.budget (neighbours reach.entry.size cell adjacent_offsets)
+        met.old sum met.new result }
 {
-    let place = place_of(size, cell);
+    let place = place_of(reach.size, cell);
     let mut total = sum;
     for offset in ADJACENT {
-        if let Some(beside) = neighbour_at(size, place, offset) {
-            total = add_once(values, distances, beside, budget, total, met);
+        if let Some(beside) = neighbour_at(reach.size, place, offset) {
+            total = add_once(reach, beside, total, met);
         }
     }
     total
 }
 
 // Adds the cells beside the listed ones to a sum, for each listed cell in order.
-pub fn add_adjacent(
-    size: Size,
-    values: &[f32],
-    distances: &[f32],
-    listed: &[u32],
-    budget: f32,
-    sum: f32,
-    met: &mut [u32],
-) -> f32
-    requires { Beside size values.now distances.now listed.now met.old }
-    ensures { AddedAdjacent size values.now distances.now budget sum listed.now met.new result }
+pub fn add_adjacent(reach: Reach<'_>, listed: &[u32], sum: f32, met: &mut [u32]) -> f32
+    requires { Beside reach.size reach.values.now reach.distances.now listed.now met.old }
+    ensures { AddedAdjacent reach.entry.size reach.entry.values.now reach.entry.distances.now reach.entry.budget sum listed.now met.new result }
 {
     let mut total = sum;
     for cell in listed {
-        total = add_around(size, *cell, values, distances, budget, total, met);
+        total = add_around(reach, *cell, total, met);
     }
     total
 }

@@ -6,50 +6,62 @@ ghost use Rattle.rules.specs.Sums.{add_value, add_values, above_budget};
 ghost use Rattle.reach.specs.Listing.{Cells};
 
 use binary32::is_nodata;
+use rules::Size;
 
-// Adds a cell's value, if it has data.
-pub fn add_value(values: &[f32], cell: u32, sum: f32) -> f32
-    requires { cell < length values.now }
-    ensures { result ≡ add_value values.now sum cell }
-{
-    let at = cell as usize;
-    let value = values[at];
-    if is_nodata(value) {
-        return sum;
-    }
-    sum + value
+// What a search from one cell is summed up by: each cell's value and the distance at which it was reached, and the budget.
+#[derive(Clone, Copy)]
+pub struct Reach<'a> {
+    pub size: Size,
+    pub values: &'a [f32],
+    pub distances: &'a [f32],
+    pub budget: f32,
 }
 
-// Adds the listed cells' values from +0.0, in list order.
-pub fn add_listed(values: &[f32], listed: &[u32]) -> f32
-    requires { Cells (length values.now) listed.now }
-    ensures { result ≡ add_values values.now plus_zero listed.now }
-{
-    let mut sum: f32 = 0.0;
-    for cell in listed {
-        sum = add_value(values, *cell, sum);
-    }
-    sum
-}
-
-// Whether a cell's distance is above the budget.
-pub fn is_above(distances: &[f32], cell: u32, budget: f32) -> bool
-    requires { cell < length distances.now }
-    ensures { result ≡ above_budget distances.now budget cell }
-{
-    let at = cell as usize;
-    distances[at] > budget
-}
-
-// Whether a listed cell's distance is above the budget.
-pub fn is_over_budget(distances: &[f32], listed: &[u32], budget: f32) -> bool
-    requires { Cells (length distances.now) listed.now }
-    ensures { result ≡ any (above_budget distances.now budget) listed.now }
-{
-    for cell in listed {
-        if is_above(distances, *cell, budget) {
-            return true;
+impl Reach<'_> {
+    // Adds a cell's value, if it has data.
+    pub(crate) fn add_value(self, cell: u32, sum: f32) -> f32
+        requires { cell < length self.values.now }
+        ensures { result ≡ add_value self.entry.values.now sum cell }
+    {
+        let at = cell as usize;
+        let value = self.values[at];
+        if is_nodata(value) {
+            return sum;
         }
+        sum + value
     }
-    false
+
+    // Adds the listed cells' values from +0.0, in list order.
+    pub fn add_listed(self, listed: &[u32]) -> f32
+        requires { Cells (length self.values.now) listed.now }
+        ensures { result ≡ add_values self.entry.values.now plus_zero listed.now }
+    {
+        let mut sum: f32 = 0.0;
+        for cell in listed {
+            sum = self.add_value(*cell, sum);
+        }
+        sum
+    }
+
+    // Whether a cell's distance is above the budget.
+    pub(crate) fn is_above(self, cell: u32) -> bool
+        requires { cell < length self.distances.now }
+        ensures { result ≡ above_budget self.entry.distances.now self.entry.budget cell }
+    {
+        let at = cell as usize;
+        self.distances[at] > self.budget
+    }
+
+    // Whether a listed cell's distance is above the budget.
+    pub fn is_over_budget(self, listed: &[u32]) -> bool
+        requires { Cells (length self.distances.now) listed.now }
+        ensures { result ≡ any (above_budget self.entry.distances.now self.entry.budget) listed.now }
+    {
+        for cell in listed {
+            if self.is_above(*cell) {
+                return true;
+            }
+        }
+        false
+    }
 }

@@ -12,6 +12,15 @@ use cells::cell_count;
 use rules::Size;
 use spread::{Rule, Search, begin_cells};
 
+// What search 8 is asked: grids of one size, and the budget.
+#[derive(Clone, Copy)]
+pub struct Amounts<'a> {
+    pub size: Size,
+    pub times: &'a [f32],
+    pub amounts: &'a [f32],
+    pub limit: f32,
+}
+
 // Whether an amount is searched from: it has data and is not 0.
 fn counts(amount: f32) -> bool
     ensures { result ≡ not (nodata amount) && not (Ieee.eq amount plus_zero) }
@@ -22,9 +31,7 @@ fn counts(amount: f32) -> bool
 // The search from one amount: each cell within its reach gains it. The answer is how many cells were taken. What is
 // lent for targets, obstacles and values is never read.
 fn search_amount(
-    size: Size,
-    times: &[f32],
-    limit: f32,
+    asked: Amounts<'_>,
     start: u32,
     amount: f32,
     answer: &mut [f32],
@@ -33,15 +40,16 @@ fn search_amount(
     added: &mut [u8],
     queue: &mut [u32],
 ) -> u64
-    requires { Searching size times.now limit answer.old distances.old marks.old added.old queue.old }
-    ensures { SearchedAmount size times.now limit start amount answer.old
+    requires { Searching asked.size asked.times.now asked.limit answer.old distances.old marks.old added.old queue.old }
+    ensures { SearchedAmount asked.entry.size asked.entry.times.now asked.entry.limit start amount answer.old
         answer.new distances.new marks.new added.new queue.new result }
 {
     let search = Search {
         rule: Rule::FromAmount(start),
-        size,
-        limit,
+        size: asked.size,
+        limit: asked.limit,
     };
+    let times = asked.times;
     let bytes = [0; 1];
     let values = [0.0; 1];
     let mut carried = [0.0; 1];
@@ -73,10 +81,7 @@ fn search_amount(
 
 // The search from one cell, if its amount counts.
 fn search_cell(
-    size: Size,
-    times: &[f32],
-    amounts: &[f32],
-    limit: f32,
+    asked: Amounts<'_>,
     cell: u32,
     answer: &mut [f32],
     distances: &mut [f32],
@@ -84,42 +89,35 @@ fn search_cell(
     added: &mut [u8],
     queue: &mut [u32],
 ) -> u64
-    requires { SearchingCell size times.now amounts.now limit cell answer.old distances.old marks.old added.old queue.old }
-    ensures { SearchedCell size times.now amounts.now limit cell answer.old
+    requires { SearchingCell asked.size asked.times.now asked.amounts.now asked.limit cell answer.old distances.old marks.old added.old queue.old }
+    ensures { SearchedCell asked.entry.size asked.entry.times.now asked.entry.amounts.now asked.entry.limit cell answer.old
         answer.new distances.new marks.new added.new queue.new result }
 {
     let at = cell as usize;
-    let amount = amounts[at];
+    let amount = asked.amounts[at];
     if counts(amount) {
-        return search_amount(
-            size, times, limit, cell, amount, answer, distances, marks, added, queue,
-        );
+        return search_amount(asked, cell, amount, answer, distances, marks, added, queue);
     }
     0
 }
 
 // The searches from all amounts that count. The answer is how many cells they took together.
 pub fn search_amounts(
-    size: Size,
-    times: &[f32],
-    amounts: &[f32],
-    limit: f32,
+    asked: Amounts<'_>,
     answer: &mut [f32],
     distances: &mut [f32],
     marks: &mut [u8],
     added: &mut [u8],
     queue: &mut [u32],
 ) -> u64
-    requires { SearchingAll size times.now amounts.now limit answer.old distances.old marks.old added.old queue.old }
-    ensures { SearchedAll size times.now amounts.now limit
+    requires { SearchingAll asked.size asked.times.now asked.amounts.now asked.limit answer.old distances.old marks.old added.old queue.old }
+    ensures { SearchedAll asked.entry.size asked.entry.times.now asked.entry.amounts.now asked.entry.limit
         answer.new distances.new marks.new added.new queue.new result }
 {
-    let end = cell_count(size) as u32;
+    let end = cell_count(asked.size) as u32;
     let mut total: u64 = 0;
     for cell in 0..end {
-        let takes = search_cell(
-            size, times, amounts, limit, cell, answer, distances, marks, added, queue,
-        );
+        let takes = search_cell(asked, cell, answer, distances, marks, added, queue);
         total += takes;
     }
     total

@@ -9,7 +9,7 @@ ghost use Rattle.sums.specs.Gain.{InAnswer, GainedCell, Gaining, GainedAll};
 use cells::Ring;
 use spread::{Nothing, PlusTimeOrQuarter, Search, take_next};
 
-// The mark of a cell that has gained the amount.
+// The mark of a cell that has gained the amount. C lends the marks as bytes.
 pub const ADDED: u8 = 1;
 
 // Whether a cell gains the amount: it is within the budget, and has not gained it.
@@ -38,7 +38,9 @@ fn gain_cell(
     }
 }
 
-// Takes cells until nothing waits; each that is within the budget gains the amount. The answer is how many were taken.
+// Takes cells until nothing waits; each that is within the budget gains the amount. The answer is how many were taken. The loop
+// is like that of `run_listing`: one function for both would take the step as a closure over two lent slices, and have to say for
+// any closure what the two contracts say of these steps.
 pub fn run_gaining(
     search: Search,
     obstacles: &[u8],

@@ -1,21 +1,15 @@
 // The searches from the mask cells, one after the other in row order, up to the first that is over the budget.
 ghost use Rattle.sums.specs.Mask.{SearchingCell, SearchedCell, SearchingMask, SearchedMask};
 
-use crate::mask_cell::{OverBudget, sum_from};
+use crate::mask_cell::{OverBudget, Within, sum_from};
 use binary32::infinity;
 use calls::fill;
 use cells::cell_count;
-use rules::Size;
 use spread::{begin_clear, is_target};
 
 // The search from one cell, if the mask selects it: how many cells it took. Its sum is its answer.
 fn search_cell(
-    size: Size,
-    mask: &[u8],
-    times: &[f32],
-    values: &[f32],
-    limit: f32,
-    include_adjacent: bool,
+    within: Within<'_>,
     cell: u32,
     answer: &mut [f32],
     distances: &mut [f32],
@@ -24,25 +18,13 @@ fn search_cell(
     met: &mut [u32],
     queue: &mut [u32],
 ) -> Result<u64, OverBudget>
-    requires { SearchingCell size mask.now times.now values.now cell answer.old distances.old marks.old listed.old met.old queue.old }
-    ensures { SearchedCell size mask.now times.now values.now limit include_adjacent cell answer.old
+    requires { SearchingCell within.size within.mask.now within.times.now within.values.now cell answer.old distances.old marks.old listed.old met.old queue.old }
+    ensures { SearchedCell within.entry.size within.entry.mask.now within.entry.times.now within.entry.values.now within.entry.limit within.entry.include_adjacent cell answer.old
         answer.new distances.new marks.new listed.new met.new queue.new result }
 {
     let at = cell as usize;
-    if is_target(mask[at]) {
-        let found = sum_from(
-            size,
-            times,
-            values,
-            limit,
-            include_adjacent,
-            cell,
-            distances,
-            marks,
-            listed,
-            met,
-            queue,
-        )?;
+    if is_target(within.mask[at]) {
+        let found = sum_from(within, cell, distances, marks, listed, met, queue)?;
         answer[at] = found.sum;
         return Ok(found.takes);
     }
@@ -52,12 +34,7 @@ fn search_cell(
 // The searches from all cells that the mask selects, unless one is over the budget: how many cells they took together. The
 // buffers are cleared once: each search puts back what it reached.
 pub fn search_mask(
-    size: Size,
-    mask: &[u8],
-    times: &[f32],
-    values: &[f32],
-    limit: f32,
-    include_adjacent: bool,
+    within: Within<'_>,
     answer: &mut [f32],
     distances: &mut [f32],
     marks: &mut [u8],
@@ -65,30 +42,16 @@ pub fn search_mask(
     met: &mut [u32],
     queue: &mut [u32],
 ) -> Result<u64, OverBudget>
-    requires { SearchingMask size mask.now times.now values.now answer.old distances.old marks.old listed.old met.old queue.old }
-    ensures { SearchedMask size mask.now times.now values.now limit include_adjacent
+    requires { SearchingMask within.size within.mask.now within.times.now within.values.now answer.old distances.old marks.old listed.old met.old queue.old }
+    ensures { SearchedMask within.entry.size within.entry.mask.now within.entry.times.now within.entry.values.now within.entry.limit within.entry.include_adjacent
         answer.new distances.new marks.new listed.new met.new queue.new result }
 {
     begin_clear(infinity(), distances, marks);
     fill(met, 0);
-    let end = cell_count(size) as u32;
+    let end = cell_count(within.size) as u32;
     let mut total: u64 = 0;
     for cell in 0..end {
-        let takes = search_cell(
-            size,
-            mask,
-            times,
-            values,
-            limit,
-            include_adjacent,
-            cell,
-            answer,
-            distances,
-            marks,
-            listed,
-            met,
-            queue,
-        )?;
+        let takes = search_cell(within, cell, answer, distances, marks, listed, met, queue)?;
         total += takes;
     }
     Ok(total)

@@ -2,7 +2,7 @@
 ghost use Rattle.calls.specs.Promise.{slice};
 ghost use Rattle.sums.specs.Promise.{Sums, summed, PromisedGains, SumTargetsWithinTravelDistance};
 
-use crate::amounts::search_amounts;
+use crate::amounts::{Amounts, search_amounts};
 use calls::{Answer, Counts, fill, judge_8, settle};
 use rules::Size;
 
@@ -22,9 +22,13 @@ fn sum_targets(
     ensures { PromisedGains (Ok result) (slice answer.old answer.new) (slice distances.old distances.new) (slice marks.old marks.new) (slice added.old added.new) (slice queue.old queue.new) (summed size times.now amounts.now limit) }
 {
     fill(answer, 0.0);
-    let takes = search_amounts(
-        size, times, amounts, limit, answer, distances, marks, added, queue,
-    );
+    let asked = Amounts {
+        size,
+        times,
+        amounts,
+        limit,
+    };
+    let takes = search_amounts(asked, answer, distances, marks, added, queue);
     settle(answer);
     fill(distances, 0.0);
     fill(marks, 0);

@@ -4,7 +4,7 @@ ghost use Rattle.sums.specs.Mask.{Given, LeftAnswer, mask_outcome};
 ghost use Rattle.sums.specs.Promise.{PromisedSums, SumWithinTravelDistance};
 
 use crate::mask::search_mask;
-use crate::mask_cell::OverBudget;
+use crate::mask_cell::{OverBudget, Within};
 use calls::{Answer, Counts, Refusal, fill, fill_nan, judge_7, settle};
 use rules::Size;
 
@@ -44,20 +44,15 @@ fn sum_mask(
     ensures { PromisedSums result (slice answer.old answer.new) (slice distances.old distances.new) (slice marks.old marks.new) (slice listed.old listed.new) (slice met.old met.new) (slice queue.old queue.new) (mask_outcome size mask.now times.now values.now limit include_adjacent) }
 {
     fill(answer, 0.0);
-    let found = search_mask(
+    let within = Within {
         size,
         mask,
         times,
         values,
         limit,
         include_adjacent,
-        answer,
-        distances,
-        marks,
-        listed,
-        met,
-        queue,
-    );
+    };
+    let found = search_mask(within, answer, distances, marks, listed, met, queue);
     fill(distances, 0.0);
     fill(marks, 0);
     fill(listed, 0);

@@ -16,14 +16,14 @@ pub bounds-met-at : goal.bounds-met-at
 bounds-met-at c = inside (goal.at.bounds-met-at c).Start
 
 pub returns-then-met-at-ne0 : goal.returns-then-met-at-ne0
-returns-then-met-at-ne0 c = met_before c.args.values.now c.args.distances.now c.args.budget c.args.sum (inside (goal.at.returns-then-met-at-ne0 c).Start) (ne_eqb _ _ c.if-met-at-ne0.true)
+returns-then-met-at-ne0 c = met_before c.args.reach.values.now c.args.reach.distances.now c.args.reach.budget c.args.sum (inside (goal.at.returns-then-met-at-ne0 c).Start) (ne_eqb _ _ c.if-met-at-ne0.true)
 
 pub is_above-requires : goal.is_above-requires
 is_above-requires c = let here = inside (goal.at.is_above-requires c).Start in let long = c.requires.distances_long in omega arith
 
 pub returns-then-not-is_above : goal.returns-then-not-is_above
 returns-then-not-is_above c =
-    within_budget c.args.values.now c.args.distances.now c.args.budget c.args.sum (inside (goal.at.returns-then-not-is_above c).Start)
+    within_budget c.args.reach.values.now c.args.reach.distances.now c.args.reach.budget c.args.sum (inside (goal.at.returns-then-not-is_above c).Start)
     (sym c.is_above.ensures ∙ not-true c.is_above.result c.if-not-is_above.true-raw)
 
 pub bounds-met-at-2 : goal.bounds-met-at-2
@@ -34,5 +34,5 @@ add_value-requires c = let here = inside (goal.at.add_value-requires c).Start in
 
 pub returns : goal.returns
 returns c =
-    added_new c.args.values.now c.args.distances.now c.args.budget c.args.sum (inside (goal.at.returns c).Start) (eq-eqb _ _ c.if-met-at-ne0.false)
+    added_new c.args.reach.values.now c.args.reach.distances.now c.args.reach.budget c.args.sum (inside (goal.at.returns c).Start) (eq-eqb _ _ c.if-met-at-ne0.false)
     (sym c.is_above.ensures ∙ not-false c.is_above.result c.if-not-is_above.false-raw) c.add_value.ensures

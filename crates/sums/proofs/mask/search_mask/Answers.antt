@@ -26,5 +26,5 @@ pub returns : goal.returns
 returns c =
     let end = c.cell_count-end.ensures in
     let past = c.loop-cell-test.false in
-    let all : c.loop-cell.cell ≡ count c.args.size = omega arith in
+    let all : c.loop-cell.cell ≡ count c.args.within.size = omega arith in
     mask_all (rw all at c.loop-cell.invariant)
