@@ -1,6 +1,15 @@
 // What the loop works in, and what it reads.
 use cells::Ring;
 
+// The grids that a search reads; a rule reads only those that it has.
+#[derive(Clone, Copy)]
+pub struct Grids<'a> {
+    pub targets: &'a [u8],
+    pub obstacles: &'a [u8],
+    pub times: &'a [f32],
+    pub values: &'a [f32],
+}
+
 // What lies in the way: the obstacles, and the times of the cells.
 #[derive(Clone, Copy)]
 pub struct Terrain<'a> {

@@ -29,7 +29,7 @@ mod take_inner;
 mod waiting;
 
 pub use begin::{begin_at, begin_cells, begin_clear};
-pub use buffers::{Buffers, Terrain};
+pub use buffers::{Buffers, Grids, Terrain};
 pub use first::is_target;
 pub use formulas::{Formula, PlusHalfSum, PlusTimeOrQuarter};
 pub use relax::Left;

@@ -2,10 +2,10 @@
 ghost use Rattle.spread.specs.Steps.{ground_of, numbers};
 ghost use Rattle.spread.specs.Buffers.{held, SameLoans};
 ghost use Rattle.spread.specs.Loop.{Running, RunningBy, Ran};
-ghost use Rattle.spread.specs.Promise.{grids, Spreads, Spread};
+ghost use Rattle.spread.specs.Promise.{grids_of, Spreads, Spread};
 
 use crate::begin::begin_cells;
-use crate::buffers::{Buffers, Terrain};
+use crate::buffers::{Buffers, Grids, Terrain};
 use crate::formulas::{Formula, PlusHalfSum, PlusStep, PlusTime, PlusTimeOrQuarter};
 use crate::search::{Rule, Search};
 use crate::steps::{Avoids, BetweenObstacles, Nothing, Obstacles};
@@ -70,24 +70,19 @@ fn run_by_rule(search: Search, ground: Terrain<'_>, b: &mut Buffers<'_>) -> u64
 // Spreads from the starting cells over the whole grid: the distances, the values that go along, and the answer, how many cells were taken.
 pub fn spread(
     search: Search,
-    targets: &[u8],
-    obstacles: &[u8],
-    times: &[f32],
-    values: &[f32],
+    grids: Grids<'_>,
     distances: &mut [f32],
     carried: &mut [f32],
     marks: &mut [u8],
     queue: &mut [u32],
 ) -> u64
-    requires { Spreads search (grids targets.now obstacles.now times.now values.now) distances.old carried.old marks.old queue.old }
+    requires { Spreads search (grids_of grids) distances.old carried.old marks.old queue.old }
     ensures { Spread search
-        (grids targets.now obstacles.now times.now values.now)
+        (grids_of grids.entry)
         carried.old
         distances.new carried.new marks.new queue.new result }
 {
-    let ring = begin_cells(
-        search, targets, times, values, distances, carried, marks, queue,
-    );
+    let ring = begin_cells(search, grids, distances, carried, marks, queue);
     let mut b = Buffers {
         distances,
         carried,
@@ -95,5 +90,9 @@ pub fn spread(
         queue,
         ring,
     };
-    run_by_rule(search, Terrain { obstacles, times }, &mut b)
+    let ground = Terrain {
+        obstacles: grids.obstacles,
+        times: grids.times,
+    };
+    run_by_rule(search, ground, &mut b)
 }

@@ -10,7 +10,7 @@ use binary32::is_nodata;
 use calls::fill_bytes;
 use cells::cell_count;
 use rules::Size;
-use spread::{Rule, Search, begin_cells};
+use spread::{Grids, Rule, Search, begin_cells};
 
 // Whether an amount is searched from: it has data and is not 0.
 fn counts(amount: f32) -> bool
@@ -47,9 +47,12 @@ fn search_amount(
     let mut carried = [0.0; 1];
     let ring = begin_cells(
         search,
-        &bytes,
-        times,
-        &values,
+        Grids {
+            targets: &bytes,
+            obstacles: &bytes,
+            times,
+            values: &values,
+        },
         distances,
         &mut carried,
         marks,
