@@ -5,7 +5,7 @@ ghost use Rattle.distances.specs.Promise.{unread, Searches, found, searched};
 
 use calls::{Counts, fill, scale, settle};
 use rules::Spacing;
-use spread::{Search, spread};
+use spread::{Grids, Search, spread};
 
 // Finds the distances, and leaves the work buffers zero.
 fn find_distances(
@@ -24,10 +24,12 @@ fn find_distances(
     let mut carried = [0.0; 1];
     let takes = spread(
         search,
-        targets,
-        obstacles,
-        times,
-        &values,
+        Grids {
+            targets,
+            obstacles,
+            times,
+            values: &values,
+        },
         answer,
         &mut carried,
         marks,

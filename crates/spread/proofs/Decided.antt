@@ -139,7 +139,7 @@ began_at_decides {distances = distances} {distances₁} {distances₂} begins be
       record { waiting = waiting; slots = equation_decides p.same_queue q.same_queue },
     )
 
--- ---- `take_by_half_sum`, `take_by_time_or_quarter`
+-- ---- `take_next`
 
 -- Two takes take the same cell at the same distance, and leave buffers that hold the same.
 pub record SameTake (search : Search) (after₁ after₂ : Buffers) (a b : TakenCell) : Type 0 where

@@ -2,6 +2,7 @@
 pub mod Waits
 pub mod Labels
 pub mod Lengths
+pub mod Loans
 pub mod Relaxing
 pub mod Rules
 pub mod Permits

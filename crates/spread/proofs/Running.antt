@@ -22,7 +22,7 @@ use Rattle.rules.specs.Sizes.{in_bounds, count}
 use Rattle.rules.specs.Values.{Carried}
 use Rattle.spread.specs.declared.search.Search.{Search}
 use Rattle.spread.specs.declared.take.TakenCell.{TakenCell}
-use Rattle.spread.specs.Nets.{carries}
+use Rattle.spread.specs.Nets.{Grids, carries}
 use Rattle.spread.specs.Buffers.{Buffers, Good, Holds}
 use Rattle.spread.specs.Steps.{Terrain, terrain}
 use Rattle.spread.specs.First.{net_on}
@@ -147,3 +147,9 @@ module _
           same_length = carried_length_kept search.rule spreads.lengths.carried_length runs.lengths.carried_length kept;
           kept = kept;
         }
+
+-- The same of what the buffers hold when the loans have ended.
+pub spread_lent :
+    {search : Search} {all : Grids} {carried : List Float} {d d' c c' : List Float} {m m' q q' : List ℕ} {r : ℕ}
+    → d' ≡ d → c' ≡ c → m' ≡ m → q' ≡ q → Spread search all carried d c m q r → Spread search all carried d' c' m' q' r
+spread_lent ds cs ms qs spread = rw (ds, cs, ms, qs) spread

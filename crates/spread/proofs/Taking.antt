@@ -27,7 +27,7 @@ use Rattle.spread.specs.declared.relax.Left.{Left}
 use Rattle.spread.specs.Nets.{carries}
 use Rattle.spread.specs.Steps.{Terrain, paired, labelled, Numbers, numbers_of, straight_steps, diagonal_steps, all_steps, Follows}
 use Rattle.spread.specs.Waiting.{Waiting, SomeWait, TookFirst}
-use Rattle.spread.specs.Buffers.{Buffers, buffers, Good, Holds, Does, scanning}
+use Rattle.spread.specs.Buffers.{Buffers, buffers, TookFrom, Good, Holds, Does, scanning}
 use Rattle.spread.specs.Loop.{left_label, listed_steps, CanLeave, LeftCell, Looking, SaysNextInner, Scanning, ScanningAll, Taking, TookCell}
 use Rattle.spread.proofs.Labels.{label_held}
 
@@ -121,7 +121,7 @@ module _
           took_by :
               (steps : List (ℕ × (Carried → Carried))) → ((net : Net Carried) → Follows search ground net → net.nbrs cell ≡ steps)
               → {after : Buffers} → Does search (scanning (left_label search left) steps) (buffers distances carried marks' queue ring') after
-              → TookCell search ground (buffers distances carried marks queue ring) after (record { cell = cell; distance = left.distance; ring = after.ring })
+              → TookCell search ground (buffers distances carried marks queue ring) after (record { cell = cell; distance = left.distance })
           took_by steps net_steps {after} does = record {
             good = does.good;
             head = λ u ws e. let same : u ∷ ws ≡ cell ∷ contents queue ring' = sym e ∙ took.split in cc;
@@ -143,7 +143,7 @@ module _
           pub took_all :
               {after : Buffers}
               → Does search (scanning (left_label search left) (all_steps search ground left.cell)) (buffers distances carried marks' queue ring') after
-              → TookCell search ground (buffers distances carried marks queue ring) after (record { cell = cell; distance = left.distance; ring = after.ring })
+              → TookCell search ground (buffers distances carried marks queue ring) after (record { cell = cell; distance = left.distance })
           took_all = took_by (all_steps search ground left.cell) (λ net follows. follows.steps cell ∙ ap (all_steps search ground) (sym leaves.same_cell))
 
           -- And so are the listed steps, where the list is that of the neighbours.
@@ -180,5 +180,28 @@ module _
             pub took_listed :
                 {after : Buffers}
                 → Does search (scanning (left_label search left) (listed_steps search ground left.cell near.cells 4 8)) (buffers distances carried marks' queue ring') after
-                → TookCell search ground (buffers distances carried marks queue ring) after (record { cell = cell; distance = left.distance; ring = after.ring })
+                → TookCell search ground (buffers distances carried marks queue ring) after (record { cell = cell; distance = left.distance })
             took_listed = took_by (listed_steps search ground left.cell near.cells 4 8) net_steps
+
+-- ---- the same of what lent buffers hold after the take, before the neighbours are tried
+
+module _ {search : Search} {ground : Terrain} {before mid : Buffers} {cell : ℕ} (takes : Taking search ground before) (took : TookFrom before mid cell) {by : Numbers} (numbered : by ≡ numbers_of search.rule) {left : Left} (leaves : LeftCell by.carrying mid.distances mid.carried cell left) where
+  left_before : LeftCell by.carrying before.distances before.carried cell left
+  left_before = subst (λ b. LeftCell by.carrying b.distances b.carried cell left) took.rest leaves
+
+  pub took_all_from :
+      {after : Buffers}
+      → Does search (scanning (left_label search left) (all_steps search ground left.cell)) mid after
+      → TookCell search ground before after (record { cell = cell; distance = left.distance })
+  took_all_from {after} does =
+      took_all takes took.first numbered left_before
+      (subst (λ b. Does search (scanning (left_label search left) (all_steps search ground left.cell)) b after) took.rest does)
+
+  pub took_listed_from :
+      ((u : ℕ) (ws : List ℕ) → contents before.queue before.ring ≡ u ∷ ws → Interior search.size u)
+      → {near : Neighbours} {after : Buffers} → Lists search.size cell near
+      → Does search (scanning (left_label search left) (listed_steps search ground left.cell near.cells 4 8)) mid after
+      → TookCell search ground before after (record { cell = cell; distance = left.distance })
+  took_listed_from inner {near} {after} lists does =
+      took_listed takes took.first numbered left_before (taken_inner takes took.first inner) lists
+      (subst (λ b. Does search (scanning (left_label search left) (listed_steps search ground left.cell near.cells 4 8)) b after) took.rest does)

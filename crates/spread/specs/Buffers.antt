@@ -5,10 +5,11 @@ use Rattle.cells.specs.declared.ring.Ring.{Ring}
 use Rattle.fifo.specs.Machine.{Net, State, store, relax, scan}
 use Rattle.rules.specs.Sizes.{count}
 use Rattle.rules.specs.Values.{Carried, nearer}
+use Rattle.spread.specs.declared.buffers.Buffers as lent
 use Rattle.spread.specs.declared.search.Search.{Search}
 use Rattle.spread.specs.declared.search.Rule.{Rule}
 use Rattle.spread.specs.Nets.{carries, labels_of}
-use Rattle.spread.specs.Waiting.{Waiting}
+use Rattle.spread.specs.Waiting.{Waiting, TookFirst}
 
 -- What the buffers hold at one time.
 pub record Buffers : Type 0 where
@@ -20,6 +21,22 @@ pub record Buffers : Type 0 where
 
 abbrev pub buffers : List Float → List Float → List ℕ → List ℕ → Ring → Buffers
 buffers distances carried marks queue ring = record { distances = distances; carried = carried; marks = marks; queue = queue; ring = ring }
+
+-- What lent buffers hold.
+abbrev pub held : lent.Buffers → Buffers
+held b = buffers b.distances.now b.carried.now b.marks.now b.queue.now b.ring
+
+-- The loans are the same ones.
+pub record SameLoans (before after : lent.Buffers) : Type 0 where
+  pub distances : after.distances.ghost_name ≡ before.distances.ghost_name
+  pub carried : after.carried.ghost_name ≡ before.carried.ghost_name
+  pub marks : after.marks.ghost_name ≡ before.marks.ghost_name
+  pub queue : after.queue.ghost_name ≡ before.queue.ghost_name
+
+-- The first of those that waited was taken, and what is no mark and not the ring is as it was.
+pub record TookFrom (before after : Buffers) (cell : ℕ) : Type 0 where
+  pub first : TookFirst before.marks before.queue before.ring after.marks cell after.ring
+  pub rest : after ≡ buffers before.distances before.carried after.marks before.queue after.ring
 
 -- They are in good order: each has its length, the buffer of values only where the rule carries one, and the marks agree with the ring.
 pub record Good (search : Search) (b : Buffers) : Type 0 where

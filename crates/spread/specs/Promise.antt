@@ -2,6 +2,7 @@
 use Rattle.std.specs.Prelude.{false, List, ◌≡◌, ℕ, ◌*◌, ◌≤◌, Float, length}
 use Rattle.fifo.specs.Machine.{initial, takes, finish, takes_of}
 use Rattle.rules.specs.Sizes.{count}
+use Rattle.spread.specs.declared.buffers.Grids as lent
 use Rattle.spread.specs.declared.search.Search.{Search}
 use Rattle.spread.specs.Nets.{Grids, net_of, carries, labels_of}
 use Rattle.spread.specs.Steps.{terrain}
@@ -11,6 +12,10 @@ use Rattle.spread.specs.Loop.{Setting}
 
 abbrev pub grids : List ℕ → List ℕ → List Float → List Float → Grids
 grids targets obstacles times values = record { targets = targets; obstacles = obstacles; times = times; values = values }
+
+-- What lent grids hold.
+abbrev pub grids_of : lent.Grids → Grids
+grids_of lent_grids = grids lent_grids.targets.now lent_grids.obstacles.now lent_grids.times.now lent_grids.values.now
 
 -- The grids and the buffers that the rule uses have their lengths, and the search takes no more than the square of the number of cells.
 pub record Spreads (search : Search) (grids : Grids) (distances carried : List Float) (marks queue : List ℕ) : Type 0 where

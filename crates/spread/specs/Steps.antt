@@ -11,6 +11,7 @@ use Rattle.rules.specs.Cells.{index, row_of, col_of, straight_neighbours, diagon
 use Rattle.rules.specs.Distances.{plus_step, plus_half_sum, free, blocked}
 use Rattle.rules.specs.Values.{Carried, nearer, carrying, plus_time}
 use Rattle.rules.specs.Sums.{plus_time_or_quarter}
+use Rattle.spread.specs.declared.buffers.Terrain as lent
 use Rattle.spread.specs.declared.search.Rule.{Rule}
 use Rattle.spread.specs.declared.search.Search.{Search}
 use Rattle.spread.specs.Nets.{by_step, by_half_sum, by_time, by_time_or_quarter, ways, sized, carries, avoids}
@@ -22,6 +23,10 @@ pub record Terrain : Type 0 where
 
 abbrev pub terrain : List ℕ → List Float → Terrain
 terrain obstacles times = record { obstacles = obstacles; times = times }
+
+-- What lies in the way where these grids are lent.
+abbrev pub ground_of : lent.Terrain → Terrain
+ground_of ground = terrain ground.obstacles.now ground.times.now
 
 -- The candidate for a cell v that is entered from the cell u, over a step of length s from distance d, by the number of a formula. Any other
 -- number is the last's.

@@ -4,6 +4,7 @@ ghost use Rattle.rules.specs.Sizes.{count};
 ghost use Rattle.spread.specs.Begin.{BeginsCell, BeganCell, BeganTo, Begins, BeginsEach, BeginsFrom, BeganFrom, Clear, BeginsAt, BeganAt};
 ghost use Rattle.spread.specs.Buffers.{buffers};
 
+use crate::buffers::Grids;
 use crate::first::{
     AnyTargets, ClosestTargets, PlainTargets, Targets, TravelTargets, ValuedTargets, above_all,
 };
@@ -17,9 +18,7 @@ use cells::{Ring, cell_count};
 // One cell begins.
 fn begin_cell<K: Targets, const CARRYING: bool>(
     cap: f32,
-    targets: &[u8],
-    times: &[f32],
-    values: &[f32],
+    grids: Grids<'_>,
     cell: u32,
     distances: &mut [f32],
     carried: &mut [f32],
@@ -27,13 +26,13 @@ fn begin_cell<K: Targets, const CARRYING: bool>(
     queue: &mut [u32],
     ring: Ring,
 ) -> Ring
-    requires { BeginsCell K.number CARRYING targets.now times.now values.now cell (buffers distances.old carried.old marks.old queue.old ring) }
-    ensures { BeganCell K.number CARRYING cap targets.now times.now values.now cell
+    requires { BeginsCell K.number CARRYING grids.targets.now grids.times.now grids.values.now cell (buffers distances.old carried.old marks.old queue.old ring) }
+    ensures { BeganCell K.number CARRYING cap grids.entry.targets.now grids.entry.times.now grids.entry.values.now cell
         (buffers distances.old carried.old marks.old queue.old ring)
         (buffers distances.new carried.new marks.new queue.new result) }
 {
     let at = cell as usize;
-    let label = K::first_label(cap, targets, times, values, cell);
+    let label = K::first_label(cap, grids, cell);
     distances[at] = label.distance;
     carry::<CARRYING>(cell, label.value, carried);
     begin_waiting(cell, label.starts, marks, queue, ring)
@@ -43,24 +42,20 @@ fn begin_cell<K: Targets, const CARRYING: bool>(
 fn begin_each<K: Targets, const CARRYING: bool>(
     search: Search,
     cap: f32,
-    targets: &[u8],
-    times: &[f32],
-    values: &[f32],
+    grids: Grids<'_>,
     distances: &mut [f32],
     carried: &mut [f32],
     marks: &mut [u8],
     queue: &mut [u32],
 ) -> Ring
-    requires { BeginsEach search K.number CARRYING cap targets.now times.now values.now distances.old carried.old marks.old queue.old }
-    ensures { BeganTo search targets.now times.now values.now (count search.size) carried.old
+    requires { BeginsEach search K.number CARRYING cap grids.targets.now grids.times.now grids.values.now distances.old carried.old marks.old queue.old }
+    ensures { BeganTo search grids.entry.targets.now grids.entry.times.now grids.entry.values.now (count search.size) carried.old
         (buffers distances.new carried.new marks.new queue.new result) }
 {
     let end = cell_count(search.size) as u32;
     let mut ring = Ring::new();
     for cell in 0..end {
-        ring = begin_cell::<K, CARRYING>(
-            cap, targets, times, values, cell, distances, carried, marks, queue, ring,
-        );
+        ring = begin_cell::<K, CARRYING>(cap, grids, cell, distances, carried, marks, queue, ring);
     }
     ring
 }
@@ -118,55 +113,56 @@ fn begin_from(
 // A search from one cell begins by filling.
 pub fn begin_cells(
     search: Search,
-    targets: &[u8],
-    times: &[f32],
-    values: &[f32],
+    grids: Grids<'_>,
     distances: &mut [f32],
     carried: &mut [f32],
     marks: &mut [u8],
     queue: &mut [u32],
 ) -> Ring
-    requires { Begins search targets.now times.now values.now distances.old carried.old marks.old queue.old }
-    ensures { BeganTo search targets.now times.now values.now (count search.size) carried.old
+    requires { Begins search grids.targets.now grids.times.now grids.values.now distances.old carried.old marks.old queue.old }
+    ensures { BeganTo search grids.entry.targets.now grids.entry.times.now grids.entry.values.now (count search.size) carried.old
         (buffers distances.new carried.new marks.new queue.new result) }
 {
     let rule = search.rule;
     let limit = search.limit;
     match rule {
         Rule::Plain => begin_each::<PlainTargets, false>(
-            search, limit, targets, times, values, distances, carried, marks, queue,
+            search, limit, grids, distances, carried, marks, queue,
         ),
         Rule::Obstacles(_) => begin_each::<AnyTargets, false>(
             search,
             infinity(),
-            targets,
-            times,
-            values,
+            grids,
             distances,
             carried,
             marks,
             queue,
         ),
         Rule::HalfSum => begin_each::<TravelTargets, false>(
-            search, limit, targets, times, values, distances, carried, marks, queue,
+            search, limit, grids, distances, carried, marks, queue,
         ),
         Rule::Closest => begin_each::<ClosestTargets, true>(
             search,
             above_all(search.size),
-            targets,
-            times,
-            values,
+            grids,
             distances,
             carried,
             marks,
             queue,
         ),
         Rule::ByTime => begin_each::<ValuedTargets, true>(
-            search, limit, targets, times, values, distances, carried, marks, queue,
+            search, limit, grids, distances, carried, marks, queue,
         ),
         Rule::FromMaskCell(origin) => {
-            begin_from(origin, infinity(), times, distances, marks, queue)
+            begin_from(origin, infinity(), grids.times, distances, marks, queue)
         }
-        Rule::FromAmount(origin) => begin_from(origin, limit + 1.0, times, distances, marks, queue),
+        Rule::FromAmount(origin) => begin_from(
+            origin,
+            limit + 1.0,
+            grids.times,
+            distances,
+            marks,
+            queue,
+        ),
     }
 }

@@ -5,6 +5,7 @@ ghost use Rattle.rules.specs.Numbers.{target_byte, whole};
 ghost use Rattle.spread.specs.First.{NeverEntered, FromStart, FromTarget, FromPlainTarget, FromTravelTarget, FromValuedTarget, Reads, FirstFrom};
 ghost use Rattle.spread.specs.First.{from_plain_targets, from_targets, from_travel_targets, from_closest_targets, from_valued_targets};
 
+use crate::buffers::Grids;
 use binary32::{is_nodata, nan, one_nan};
 use cells::cell_count;
 use rules::Size;
@@ -108,9 +109,9 @@ pub trait Targets {
     ghost number: { ℕ };
 
     // What a cell begins with.
-    fn first_label(cap: f32, targets: &[u8], times: &[f32], values: &[f32], cell: u32) -> First
-        requires { Reads number targets.now times.now values.now cell }
-        ensures { FirstFrom number cap targets.now times.now values.now cell result };
+    fn first_label(cap: f32, grids: Grids<'_>, cell: u32) -> First
+        requires { Reads number grids.targets.now grids.times.now grids.values.now cell }
+        ensures { FirstFrom number cap grids.entry.targets.now grids.entry.times.now grids.entry.values.now cell result };
 }
 
 // The targets of search 1.
@@ -119,8 +120,8 @@ pub struct PlainTargets;
 impl Targets for PlainTargets {
     ghost number = { from_plain_targets };
 
-    fn first_label(cap: f32, targets: &[u8], _times: &[f32], _values: &[f32], cell: u32) -> First {
-        from_plain_target(targets[cell as usize], cap)
+    fn first_label(cap: f32, grids: Grids<'_>, cell: u32) -> First {
+        from_plain_target(grids.targets[cell as usize], cap)
     }
 }
 
@@ -130,8 +131,8 @@ pub struct AnyTargets;
 impl Targets for AnyTargets {
     ghost number = { from_targets };
 
-    fn first_label(cap: f32, targets: &[u8], _times: &[f32], _values: &[f32], cell: u32) -> First {
-        from_target(targets[cell as usize], 0.0, cap)
+    fn first_label(cap: f32, grids: Grids<'_>, cell: u32) -> First {
+        from_target(grids.targets[cell as usize], 0.0, cap)
     }
 }
 
@@ -141,9 +142,9 @@ pub struct TravelTargets;
 impl Targets for TravelTargets {
     ghost number = { from_travel_targets };
 
-    fn first_label(cap: f32, targets: &[u8], times: &[f32], _values: &[f32], cell: u32) -> First {
+    fn first_label(cap: f32, grids: Grids<'_>, cell: u32) -> First {
         let at = cell as usize;
-        from_travel_target(targets[at], times[at], cap)
+        from_travel_target(grids.targets[at], grids.times[at], cap)
     }
 }
 
@@ -153,9 +154,9 @@ pub struct ClosestTargets;
 impl Targets for ClosestTargets {
     ghost number = { from_closest_targets };
 
-    fn first_label(cap: f32, targets: &[u8], _times: &[f32], values: &[f32], cell: u32) -> First {
+    fn first_label(cap: f32, grids: Grids<'_>, cell: u32) -> First {
         let at = cell as usize;
-        from_target(targets[at], one_nan(values[at]), cap)
+        from_target(grids.targets[at], one_nan(grids.values[at]), cap)
     }
 }
 
@@ -165,8 +166,8 @@ pub struct ValuedTargets;
 impl Targets for ValuedTargets {
     ghost number = { from_valued_targets };
 
-    fn first_label(cap: f32, targets: &[u8], _times: &[f32], values: &[f32], cell: u32) -> First {
+    fn first_label(cap: f32, grids: Grids<'_>, cell: u32) -> First {
         let at = cell as usize;
-        from_valued_target(targets[at], values[at], cap)
+        from_valued_target(grids.targets[at], grids.values[at], cap)
     }
 }

@@ -5,13 +5,17 @@
 // (specs/Promise.antt). Each function below it promises that the buffers hold, after it, the machine's
 // operation on the state that they held before (specs/Buffers.antt).
 //
-// `begin_cells` and `take_next` are for a loop of one's own that does something with each cell that is taken:
-// proofs/Running.antt and proofs/Tracing.antt have the laws for it. Where many searches
-// from one cell each follow one another, `begin_clear` begins once for all, and `begin_at` begins each of them, if
-// between two the cells that the last one reached are put back (`Clear` in specs/Begin.antt).
+// `begin_cells` and `take_next` are for a loop of one's own that does something with each cell that is taken: proofs/Running.antt and
+// proofs/Tracing.antt have the laws for it. Where many searches from one cell each follow one another, `begin_clear` begins once for all,
+// and `begin_at` begins each of them, if between two the cells that the last one reached are put back (`Clear` in specs/Begin.antt).
+//
+// What a search adds, avoids and carries is a type (`Formula`, `Avoids`, CARRYING), so that each has a loop of its own. The buffers are one
+// struct of loans: what works in it is inlined up to the function that made it, where its slices are locals. Called, a take has up to a third
+// more instructions.
 #![tactic(auto)]
 
 mod begin;
+mod buffers;
 mod first;
 mod formulas;
 mod relax;
@@ -25,6 +29,7 @@ mod take_inner;
 mod waiting;
 
 pub use begin::{begin_at, begin_cells, begin_clear};
+pub use buffers::{Buffers, Grids, Terrain};
 pub use first::is_target;
 pub use formulas::{Formula, PlusHalfSum, PlusTimeOrQuarter};
 pub use relax::Left;

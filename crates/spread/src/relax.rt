@@ -1,15 +1,15 @@
 // One neighbour is tried: its candidate is stored if it is below the neighbour's distance.
 ghost use Rattle.std.specs.Prelude.{◌≡◌, true, cond, [], ◌∷◌, ◌<◌, length, set};
-ghost use Rattle.spread.specs.Steps.{terrain, numbers, length_of, steps_by};
-ghost use Rattle.spread.specs.Buffers.{buffers, scanning, Does};
+ghost use Rattle.spread.specs.Steps.{ground_of, numbers, length_of, steps_by};
+ghost use Rattle.spread.specs.Buffers.{held, SameLoans, scanning, Does};
 ghost use Rattle.spread.specs.Loop.{left_label, Storing, Stored, Entering};
 
+use crate::buffers::{Buffers, Terrain};
 use crate::formulas::Formula;
 use crate::search::Search;
 use crate::steps::Avoids;
 use crate::waiting::wait;
 use binary32::{DIAGONAL, STRAIGHT};
-use cells::Ring;
 
 // The cell that is left, with the label that it had when it was taken.
 #[derive(Clone, Copy)]
@@ -41,25 +41,15 @@ fn step_length(diagonal: bool) -> f32
 }
 
 // A cell takes a label, and waits.
-fn store<const CARRYING: bool>(
-    cell: u32,
-    distance: f32,
-    value: f32,
-    distances: &mut [f32],
-    carried: &mut [f32],
-    marks: &mut [u8],
-    queue: &mut [u32],
-    ring: Ring,
-) -> Ring
-    requires { Storing CARRYING cell (buffers distances.old carried.old marks.old queue.old ring) }
-    ensures { Stored CARRYING cell distance value
-        (buffers distances.old carried.old marks.old queue.old ring)
-        (buffers distances.new carried.new marks.new queue.new result) }
+fn store<const CARRYING: bool>(cell: u32, distance: f32, value: f32, b: &mut Buffers<'_>)
+    requires { Storing CARRYING cell (held b.old) }
+    ensures does { Stored CARRYING cell distance value (held b.old) (held b.new) }
+    ensures same { SameLoans b.old b.new }
 {
     let at = cell as usize;
-    distances[at] = distance;
-    carry::<CARRYING>(cell, value, carried);
-    wait(cell, marks, queue, ring)
+    b.distances[at] = distance;
+    carry::<CARRYING>(cell, value, b.carried);
+    b.ring = wait(cell, b.marks, b.queue, b.ring);
 }
 
 // Tries a cell over a step: its candidate is stored if it is below the cell's distance. The obstacles beside the
@@ -67,33 +57,24 @@ fn store<const CARRYING: bool>(
 pub fn relax<F: Formula, A: Avoids, const CARRYING: bool>(
     search: Search,
     diagonal: bool,
-    obstacles: &[u8],
-    times: &[f32],
+    ground: Terrain<'_>,
     left: Left,
     cell: u32,
-    distances: &mut [f32],
-    carried: &mut [f32],
-    marks: &mut [u8],
-    queue: &mut [u32],
-    ring: Ring,
-) -> Ring
-    requires { Entering search (numbers F.number A.number CARRYING) (terrain obstacles.now times.now) left.cell cell (buffers distances.old carried.old marks.old queue.old ring) }
-    ensures { Does search (scanning (left_label search left) (steps_by search (terrain obstacles.now times.now) diagonal left.cell (cell ∷ [])))
-        (buffers distances.old carried.old marks.old queue.old ring)
-        (buffers distances.new carried.new marks.new queue.new result) }
+    b: &mut Buffers<'_>,
+)
+    requires { Entering search (numbers F.number A.number CARRYING) (ground_of ground) left.cell cell (held b.old) }
+    ensures does { Does search (scanning (left_label search left) (steps_by search (ground_of ground.entry) diagonal left.cell (cell ∷ []))) (held b.old) (held b.new) }
+    ensures same { SameLoans b.old b.new }
 {
-    if !A::may_enter(obstacles, cell) {
-        return ring;
+    if !A::may_enter(ground.obstacles, cell) {
+        return;
     }
     let at = cell as usize;
-    let distance = F::candidate(times, left, step_length(diagonal), cell);
-    if distances[at] > distance {
-        if A::is_blocked(diagonal, search.size, obstacles, left.cell, cell) {
-            return ring;
+    let distance = F::candidate(ground.times, left, step_length(diagonal), cell);
+    if b.distances[at] > distance {
+        if A::is_blocked(diagonal, search.size, ground.obstacles, left.cell, cell) {
+            return;
         }
-        return store::<CARRYING>(
-            cell, distance, left.value, distances, carried, marks, queue, ring,
-        );
+        store::<CARRYING>(cell, distance, left.value, b);
     }
-    ring
 }

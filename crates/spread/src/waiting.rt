@@ -1,6 +1,9 @@
 // Which cells wait: their marks, and the ring that holds them.
-ghost use Rattle.spread.specs.Waiting.{Beginning, Began, Joining, Joined, SomeWait, TookFirst};
+ghost use Rattle.cells.specs.Ring.{HasCell, Took};
+ghost use Rattle.spread.specs.Waiting.{Beginning, Began, Joining, Joined, SomeWait};
+ghost use Rattle.spread.specs.Buffers.{held, SameLoans, TookFrom};
 
+use crate::buffers::Buffers;
 use cells::Ring;
 
 // The cell was not reached, waits, or was taken.
@@ -47,13 +50,26 @@ pub fn wait(cell: u32, marks: &mut [u8], queue: &mut [u32], ring: Ring) -> Ring
     ring
 }
 
-// Takes the cell that waited longest, and marks it so.
-pub fn take_first(marks: &mut [u8], queue: &[u32], ring: &mut Ring) -> u32
-    requires { SomeWait marks.old queue.now ring.old }
-    ensures { TookFirst marks.old queue.now ring.old marks.new result ring.new }
+// The cell that waited longest, and the ring without it.
+fn take_waiting(b: &Buffers<'_>) -> (u32, Ring)
+    requires { HasCell b.now.queue.now b.now.ring }
+    ensures { Took b.now.queue.now b.now.ring result.0 result.1 }
 {
-    let cell = ring.take(queue);
+    let mut ring = b.ring;
+    let cell = ring.take(b.queue);
+    (cell, ring)
+}
+
+// Takes the cell that waited longest, and marks it so.
+pub fn take_first(b: &mut Buffers<'_>) -> u32
+    requires { SomeWait b.old.marks.now b.old.queue.now b.old.ring }
+    ensures does { TookFrom (held b.old) (held b.new) result }
+    ensures same { SameLoans b.old b.new }
+{
+    let taken = take_waiting(b);
+    let cell = taken.0;
+    b.ring = taken.1;
     let at = cell as usize;
-    marks[at] = MARK_DONE;
+    b.marks[at] = MARK_DONE;
     cell
 }

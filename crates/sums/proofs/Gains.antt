@@ -123,3 +123,9 @@ module _ {search : Search} {ground : Terrain} {amount : Float} {start : List Flo
         added_length = at.added_length;
         gained = λ net ready. (at.gained net ready).answer_is;
       }
+
+-- The same of what the buffers hold when the loans have ended.
+pub gained_lent :
+    {search : Search} {ground : Terrain} {amount : Float} {answer answer' : List Float} {before : Buffers} {d d' c c' : List Float} {m m' added q q' : List ℕ} {r : ℕ}
+    → d' ≡ d → c' ≡ c → m' ≡ m → q' ≡ q → GainedAll search ground amount answer before answer' d c m added q r → GainedAll search ground amount answer before answer' d' c' m' added q' r
+gained_lent ds cs ms qs all = rw (ds, cs, ms, qs) all

@@ -3,6 +3,7 @@ use mathlib.Core.Bool.{Bool, true, false, not}
 use mathlib.Core.List.{List, [], ◌∷◌, ◌++◌, map, map-append}
 use mathlib.Core.Path.{◌≡◌, sym, ap, ◌∙◌, subst}
 use Prim.Native.Nat.{ℕ, ◌+◌}
+use lib.Ieee.{Float}
 use lib.ListN.{length}
 use Rattle.cells.specs.Ring.{SaysEmpty}
 use Rattle.fifo.specs.Machine.{Net, joined, once}
@@ -18,6 +19,7 @@ use Rattle.spread.proofs.Running.{Turn, no_turn, next_turn, ran}
 use Rattle.spread.proofs.Tracing.{none_taken, next_taken}
 use Rattle.reach.specs.Listing.{Listing, Joining, Joined}
 use Rattle.reach.proofs.Listings.{joining, listing_joined}
+use Rattle.sums.specs.declared.listing.Reached.{Reached}
 use Rattle.sums.specs.Listed.{each_once, Lists, ListedAll}
 
 -- What holds before each turn of the loop.
@@ -73,3 +75,9 @@ module _ {search : Search} {ground : Terrain} {before : Buffers} where
         met_length = at.met_length;
         lists = at.lists;
       }
+
+-- The same of what the buffers hold when the loans have ended.
+pub listed_lent :
+    {search : Search} {ground : Terrain} {before : Buffers} {d d' c c' : List Float} {m m' listed met q q' : List ℕ} {r : Reached}
+    → d' ≡ d → c' ≡ c → m' ≡ m → q' ≡ q → ListedAll search ground before d c m listed met q r → ListedAll search ground before d' c' m' listed met q' r
+listed_lent ds cs ms qs all = rw (ds, cs, ms, qs) all

@@ -10,7 +10,7 @@ use binary32::is_nodata;
 use calls::fill;
 use cells::cell_count;
 use rules::Size;
-use spread::{Rule, Search, begin_cells};
+use spread::{Grids, Rule, Search, begin_cells};
 
 // What search 8 is asked: grids of one size, and the budget.
 #[derive(Clone, Copy)]
@@ -55,9 +55,12 @@ fn search_amount(
     let mut carried = [0.0; 1];
     let ring = begin_cells(
         search,
-        &bytes,
-        times,
-        &values,
+        Grids {
+            targets: &bytes,
+            obstacles: &bytes,
+            times,
+            values: &values,
+        },
         distances,
         &mut carried,
         marks,

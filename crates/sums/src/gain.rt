@@ -7,7 +7,7 @@ ghost use Rattle.sums.specs.Gain as gains;
 ghost use Rattle.sums.specs.Gain.{InAnswer, GainedCell, Gaining, GainedAll};
 
 use cells::Ring;
-use spread::{Nothing, PlusTimeOrQuarter, Search, take_next};
+use spread::{Buffers, Nothing, PlusTimeOrQuarter, Search, Terrain, take_next};
 
 // The mark of a cell that has gained the amount. C lends the marks as bytes.
 pub const ADDED: u8 = 1;
@@ -60,13 +60,17 @@ pub fn run_gaining(
         (buffers distances.old carried.old marks.old queue.old ring)
         answer.new distances.new carried.new marks.new added.new queue.new result }
 {
-    let mut waiting = ring;
+    let ground = Terrain { obstacles, times };
+    let mut b = Buffers {
+        distances,
+        carried,
+        marks,
+        queue,
+        ring,
+    };
     let mut takes: u64 = 0;
-    while !waiting.is_empty() {
-        let took = take_next::<PlusTimeOrQuarter, Nothing, false>(
-            search, obstacles, times, distances, carried, marks, queue, waiting,
-        );
-        waiting = took.ring;
+    while !b.ring.is_empty() {
+        let took = take_next::<PlusTimeOrQuarter, Nothing, false>(search, ground, &mut b);
         gain_cell(
             took.cell,
             took.distance,

@@ -5,7 +5,7 @@ ghost use Rattle.sums.specs.Listed.{Lists, ListedAll};
 
 use cells::Ring;
 use reach::list_cell;
-use spread::{Nothing, PlusHalfSum, Search, take_next};
+use spread::{Buffers, Nothing, PlusHalfSum, Search, Terrain, take_next};
 
 // How many cells a search took, and how many are listed.
 #[derive(Clone, Copy)]
@@ -33,14 +33,18 @@ pub fn run_listing(
         (buffers distances.old carried.old marks.old queue.old ring)
         distances.new carried.new marks.new listed.new met.new queue.new result }
 {
-    let mut waiting = ring;
+    let ground = Terrain { obstacles, times };
+    let mut b = Buffers {
+        distances,
+        carried,
+        marks,
+        queue,
+        ring,
+    };
     let mut takes: u64 = 0;
     let mut entries: usize = 0;
-    while !waiting.is_empty() {
-        let took = take_next::<PlusHalfSum, Nothing, false>(
-            search, obstacles, times, distances, carried, marks, queue, waiting,
-        );
-        waiting = took.ring;
+    while !b.ring.is_empty() {
+        let took = take_next::<PlusHalfSum, Nothing, false>(search, ground, &mut b);
         entries = list_cell(took.cell, met, listed, entries);
         takes += 1;
     }

@@ -4,7 +4,7 @@ ghost use Rattle.spread.specs.Promise.{grids};
 ghost use Rattle.values.specs.Promise.{Searches, searched, PromisedValues};
 
 use calls::{Counts, fill, settle};
-use spread::{Search, spread};
+use spread::{Grids, Search, spread};
 
 // Finds the values and leaves the work buffers zero. The rule avoids nothing: what is lent for the obstacles is never read,
 // nor what is lent for the times where the rule reads none.
@@ -21,9 +21,13 @@ pub fn search_values(
     requires { Searches search (grids targets.now targets.now times.now values.now) answer.old distances.old marks.old queue.old }
     ensures { PromisedValues (Ok result) (slice answer.old answer.new) (slice distances.old distances.new) (slice marks.old marks.new) (slice queue.old queue.new) (searched search (grids targets.now targets.now times.now values.now)) }
 {
-    let takes = spread(
-        search, targets, targets, times, values, distances, answer, marks, queue,
-    );
+    let grids = Grids {
+        targets,
+        obstacles: targets,
+        times,
+        values,
+    };
+    let takes = spread(search, grids, distances, answer, marks, queue);
     settle(answer);
     fill(distances, 0.0);
     fill(marks, 0);

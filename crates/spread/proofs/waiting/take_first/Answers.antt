@@ -1,10 +1,11 @@
 -- `waiting::take_first` meets its contract. Assumes nothing.
+use mathlib.Core.Path.{refl}
 use native.Mathlib.Omega.{arith}
 use Rattle.spread.proofs.Waits.{taken_inside, took_first}
 use Rattle.spread.proofs.waiting.take_first.Goals as goal
 
-pub bounds-marks-at : goal.bounds-marks-at
-bounds-marks-at c = taken_inside c.requires.waits c.take-cell.ensures
+pub bounds-b-at : goal.bounds-b-at
+bounds-b-at c = taken_inside c.requires.waits c.take_waiting-taken.ensures
 
-pub returns : goal.returns
-returns c = took_first c.requires.waits c.take-cell.ensures 2 (λ e. omega arith)
+pub returns-clause-does : goal.returns-clause-does
+returns-clause-does c = record { first = took_first c.requires.waits c.take_waiting-taken.ensures 2 (λ e. omega arith); rest = refl }
