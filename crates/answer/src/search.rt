@@ -8,6 +8,7 @@ use calls::Answer;
 use cells::cell_count;
 use distances::{distance_with_obstacles, distances_up_to, travel_distances_up_to};
 use gridfile::{FILE_CELLS_MAX, Request, Search};
+use rules::Grid;
 use sums::{sum_targets_within_travel_distance, sum_within_travel_distance};
 use values::{
     value_at_closest_less_than_travel_target, value_at_closest_target,
@@ -39,33 +40,43 @@ fn run(
     ensures { stated result cells.new ≡ found request targets.now obstacles.now times.now values.now }
 {
     let size = request.size;
+    let targets = Grid {
+        size,
+        cells: targets,
+    };
+    let obstacles = Grid {
+        size,
+        cells: obstacles,
+    };
+    let times = Grid { size, cells: times };
+    let values = Grid {
+        size,
+        cells: values,
+    };
     let spacing = request.spacing;
     let limit = spacing.limit;
     let diagonals = request.diagonals;
     let include_adjacent = request.adjacent;
     match request.search {
-        Search::DistancesUpTo => distances_up_to(size, targets, spacing, cells, marks, queue),
-        Search::DistanceWithObstacles => distance_with_obstacles(
-            size, targets, size, obstacles, spacing, diagonals, cells, marks, queue,
-        ),
-        Search::TravelDistancesUpTo => travel_distances_up_to(
-            size, targets, size, times, limit, cells, marks, queue,
-        ),
-        Search::ValueAtClosestTarget => value_at_closest_target(
-            size, targets, size, values, cells, distances, marks, queue,
-        ),
-        Search::ValueAtClosestTravelTarget => value_at_closest_travel_target(
-            size, targets, size, times, size, values, cells, distances, marks, queue,
-        ),
+        Search::DistancesUpTo => distances_up_to(targets, spacing, cells, marks, queue),
+        Search::DistanceWithObstacles => {
+            distance_with_obstacles(targets, obstacles, spacing, diagonals, cells, marks, queue)
+        }
+        Search::TravelDistancesUpTo => {
+            travel_distances_up_to(targets, times, limit, cells, marks, queue)
+        }
+        Search::ValueAtClosestTarget => {
+            value_at_closest_target(targets, values, cells, distances, marks, queue)
+        }
+        Search::ValueAtClosestTravelTarget => {
+            value_at_closest_travel_target(targets, times, values, cells, distances, marks, queue)
+        }
         Search::ValueAtClosestLessThanTravelTarget => value_at_closest_less_than_travel_target(
-            size, targets, size, times, size, values, limit, cells, distances, marks, queue,
+            targets, times, values, limit, cells, distances, marks, queue,
         ),
         Search::SumWithinTravelDistance => sum_within_travel_distance(
-            size,
             targets,
-            size,
             times,
-            size,
             values,
             limit,
             include_adjacent,
@@ -77,7 +88,7 @@ fn run(
             queue,
         ),
         Search::SumTargetsWithinTravelDistance => sum_targets_within_travel_distance(
-            size, times, size, values, limit, cells, distances, marks, added, queue,
+            times, values, limit, cells, distances, marks, added, queue,
         ),
     }
 }

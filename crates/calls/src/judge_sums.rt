@@ -1,23 +1,24 @@
 // The refusals 1 to 6 of the searches for sums within reach.
 #![tactic(auto, unfolding(rules::specs::Sums::refusals_7, rules::specs::Sums::refusals_8, rules::specs::Sizes::shape, rules::specs::Sizes::first_that_holds))]
 
-ghost use Rattle.std.specs.Prelude.{◌≡◌, [], ◌∷◌, T, length};
+ghost use Rattle.std.specs.Prelude.{◌≡◌, [], ◌∷◌, T, length, OnOk};
 ghost use Rattle.rules.specs.Sums.{refusals_7, refusals_8};
 ghost use Rattle.calls.specs.Answer.{judged_as};
 ghost use Rattle.rules.specs.Sizes.{grid, in_bounds, count, first_that_holds, bad_budget, negative_time};
-ghost use Rattle.calls.specs.Given.{lent};
+ghost use Rattle.calls.specs.Given.{Held, lent};
 
 use crate::answer::Refusal;
 use crate::limits::judge_budget;
 use crate::shape::judge_shape;
 use crate::times::first_negative;
-use rules::Size;
+use rules::{Grid, Size};
 
 // 5, by a budget, then 6.
 fn judge_budget_and_times(budget: f32, size: Size, times: &[f32]) -> Result<(), Refusal>
     requires bounded { T (in_bounds size) }
     requires whole { length times.now ≡ count size }
-    ensures { judged_as result ≡ first_that_holds (bad_budget budget ∷ negative_time times.now ∷ []) }
+    ensures held { Held times.now }
+    ensures judged { judged_as result ≡ first_that_holds (bad_budget budget ∷ negative_time times.now ∷ []) }
 {
     judge_budget(budget)?;
     first_negative(size, times)
@@ -25,46 +26,43 @@ fn judge_budget_and_times(budget: f32, size: Size, times: &[f32]) -> Result<(), 
 
 // Search 7, `sum_within_travel_distance`. Refusal 7 is given only once the search runs.
 pub fn judge_7(
-    mask_size: Size,
-    mask: &[u8],
-    times_size: Size,
-    times: &[f32],
-    values_size: Size,
-    values: &[f32],
+    mask: Grid<'_, u8>,
+    times: Grid<'_, f32>,
+    values: Grid<'_, f32>,
     budget: f32,
     lent_lengths: &[usize],
     queue_length: usize,
 ) -> Result<(), Refusal>
-    ensures { judged_as result ≡ refusals_7 (grid mask_size mask.now) (grid times_size times.now) (grid values_size values.now) budget (lent lent_lengths.now queue_length) }
+    ensures held { OnOk result (Held times.entry.cells.now) }
+    ensures judged { judged_as result ≡ refusals_7 (grid mask.entry.size mask.entry.cells.now) (grid times.entry.size times.entry.cells.now) (grid values.entry.size values.entry.cells.now) budget (lent lent_lengths.now queue_length) }
 {
     judge_shape(
-        mask_size,
-        &[times_size, values_size],
-        &[mask.len(), times.len(), values.len()],
+        mask.size,
+        &[times.size, values.size],
+        &[mask.cells.len(), times.cells.len(), values.cells.len()],
         lent_lengths,
         queue_length,
     )?;
-    judge_budget_and_times(budget, mask_size, times)
+    judge_budget_and_times(budget, mask.size, times.cells)
 }
 
 // Search 8, `sum_targets_within_travel_distance`.
 pub fn judge_8(
-    times_size: Size,
-    times: &[f32],
-    amounts_size: Size,
-    amounts: &[f32],
+    times: Grid<'_, f32>,
+    amounts: Grid<'_, f32>,
     budget: f32,
     lent_lengths: &[usize],
     queue_length: usize,
 ) -> Result<(), Refusal>
-    ensures { judged_as result ≡ refusals_8 (grid times_size times.now) (grid amounts_size amounts.now) budget (lent lent_lengths.now queue_length) }
+    ensures held { OnOk result (Held times.entry.cells.now) }
+    ensures judged { judged_as result ≡ refusals_8 (grid times.entry.size times.entry.cells.now) (grid amounts.entry.size amounts.entry.cells.now) budget (lent lent_lengths.now queue_length) }
 {
     judge_shape(
-        times_size,
-        &[amounts_size],
-        &[times.len(), amounts.len()],
+        times.size,
+        &[amounts.size],
+        &[times.cells.len(), amounts.cells.len()],
         lent_lengths,
         queue_length,
     )?;
-    judge_budget_and_times(budget, times_size, times)
+    judge_budget_and_times(budget, times.size, times.cells)
 }

@@ -62,7 +62,7 @@ pub fn judge_shape(
     queue_length: usize,
 ) -> Result<(), Refusal>
     ensures bounded { OnOk result (T (in_bounds size)) }
-    ensures whole { OnOk result (All (λ length. length ≡ count size) input_lengths.now) }
+    ensures whole { OnOk result (All (λ n. n ≡ count size) input_lengths.now) }
     ensures judged { judged_as result ≡ first_that_holds (shape size others.now input_lengths.now (lent lent_lengths.now queue_length) []) }
 {
     if !in_bounds(size) || any_out_of_bounds(others) {

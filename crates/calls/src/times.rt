@@ -2,6 +2,7 @@
 ghost use Rattle.std.specs.Prelude.{◌≡◌, [], ◌∷◌, T, length};
 ghost use Rattle.rules.specs.Sizes.{in_bounds, count, first_that_holds, negative_time};
 ghost use Rattle.calls.specs.Answer.{judged_as};
+ghost use Rattle.calls.specs.Given.{Held};
 
 use crate::answer::Refusal;
 use rules::Size;
@@ -11,7 +12,8 @@ use rules::Size;
 pub fn first_negative(size: Size, times: &[f32]) -> Result<(), Refusal>
     requires bounded { T (in_bounds size) }
     requires whole { length times.now ≡ count size }
-    ensures { judged_as result ≡ first_that_holds (negative_time times.now ∷ []) }
+    ensures held { Held times.now }
+    ensures judged { judged_as result ≡ first_that_holds (negative_time times.now ∷ []) }
 {
     let rows = size.rows as usize;
     let cols = size.cols as usize;

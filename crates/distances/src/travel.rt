@@ -5,27 +5,23 @@ ghost use Rattle.distances.specs.Promise.{TravelDistancesUpTo, TravelDistance};
 use crate::search::search_travel;
 use binary32::infinity;
 use calls::{Answer, judge_3};
-use rules::Size;
+use rules::Grid;
 use spread::{Rule, Search};
 
 // The travel time of each cell to the nearest target, up to the limit.
 #[tactic(auto, using(crate::proofs::Searching::travel_searches, crate::proofs::Searching::travel_found), unfolding(rules::specs::Distances::outcome_3))]
 pub fn travel_distances_up_to(
-    targets_size: Size,
-    targets: &[u8],
-    times_size: Size,
-    times: &[f32],
+    targets: Grid<'_, u8>,
+    times: Grid<'_, f32>,
     limit: f32,
     answer: &mut [f32],
     marks: &mut [u8],
     queue: &mut [u32],
 ) -> Answer
-    ensures { TravelDistancesUpTo targets_size targets.now times_size times.now limit (slice answer.old answer.new) (slice marks.old marks.new) (slice queue.old queue.new) result }
+    ensures { TravelDistancesUpTo targets.entry.size targets.entry.cells.now times.entry.size times.entry.cells.now limit (slice answer.old answer.new) (slice marks.old marks.new) (slice queue.old queue.new) result }
 {
     judge_3(
-        targets_size,
         targets,
-        times_size,
         times,
         limit,
         &[answer.len(), marks.len()],
@@ -33,33 +29,22 @@ pub fn travel_distances_up_to(
     )?;
     let search = Search {
         rule: Rule::HalfSum,
-        size: targets_size,
+        size: targets.size,
         limit,
     };
-    Ok(search_travel(search, targets, times, answer, marks, queue))
+    Ok(search_travel(search, targets.cells, times.cells, answer, marks, queue))
 }
 
 // The travel time of each cell to the nearest target, however long.
 pub fn travel_distance(
-    targets_size: Size,
-    targets: &[u8],
-    times_size: Size,
-    times: &[f32],
+    targets: Grid<'_, u8>,
+    times: Grid<'_, f32>,
     answer: &mut [f32],
     marks: &mut [u8],
     queue: &mut [u32],
 ) -> Answer
-    ensures { TravelDistance targets_size targets.now times_size times.now (slice answer.old answer.new) (slice marks.old marks.new) (slice queue.old queue.new) result }
+    ensures { TravelDistance targets.entry.size targets.entry.cells.now times.entry.size times.entry.cells.now (slice answer.old answer.new) (slice marks.old marks.new) (slice queue.old queue.new) result }
 {
     let limit = infinity();
-    travel_distances_up_to(
-        targets_size,
-        targets,
-        times_size,
-        times,
-        limit,
-        answer,
-        marks,
-        queue,
-    )
+    travel_distances_up_to(targets, times, limit, answer, marks, queue)
 }

@@ -2,10 +2,11 @@
 ghost use Rattle.calls.specs.Promise.{slice};
 ghost use Rattle.haul_c.specs.Export.{ExportedUpTo, ExportedObstacles, ExportedTravelUpTo};
 
+use crate::grids::sized;
 use crate::report::report;
 use distances::{distance_with_obstacles, distances_up_to, travel_distances_up_to};
 use gridfile::diagonals_of;
-use rules::{Size, Spacing};
+use rules::Spacing;
 
 // Exports search 1, `distances_up_to`.
 #[unsafe(no_mangle)]
@@ -23,12 +24,9 @@ pub extern "C" fn haul_distances_up_to(
 ) -> u32
     ensures { ExportedUpTo rows columns targets.now cell_size limit (slice answer.old answer.new) (slice marks.old marks.new) (slice queue.old queue.new) takes.old takes.new index.old index.new result }
 {
-    let size = Size {
-        rows,
-        cols: columns,
-    };
+    let targets = sized(rows, columns, targets);
     let spacing = Spacing { cell_size, limit };
-    let answered = distances_up_to(size, targets, spacing, answer, marks, queue);
+    let answered = distances_up_to(targets, spacing, answer, marks, queue);
     report(answered, takes, index)
 }
 
@@ -51,30 +49,14 @@ pub extern "C" fn haul_distance_with_obstacles(
 ) -> u32
     ensures { ExportedObstacles rows columns targets.now obstacle_rows obstacle_columns obstacles.now cell_size diagonals (slice answer.old answer.new) (slice marks.old marks.new) (slice queue.old queue.new) takes.old takes.new index.old index.new result }
 {
-    let size = Size {
-        rows,
-        cols: columns,
-    };
-    let obstacles_size = Size {
-        rows: obstacle_rows,
-        cols: obstacle_columns,
-    };
+    let targets = sized(rows, columns, targets);
+    let obstacles = sized(obstacle_rows, obstacle_columns, obstacles);
     let spacing = Spacing {
         cell_size,
         limit: 0.0,
     };
     let way = diagonals_of(diagonals);
-    let answered = distance_with_obstacles(
-        size,
-        targets,
-        obstacles_size,
-        obstacles,
-        spacing,
-        way,
-        answer,
-        marks,
-        queue,
-    );
+    let answered = distance_with_obstacles(targets, obstacles, spacing, way, answer, marks, queue);
     report(answered, takes, index)
 }
 
@@ -96,16 +78,8 @@ pub extern "C" fn haul_travel_distances_up_to(
 ) -> u32
     ensures { ExportedTravelUpTo rows columns targets.now time_rows time_columns times.now limit (slice answer.old answer.new) (slice marks.old marks.new) (slice queue.old queue.new) takes.old takes.new index.old index.new result }
 {
-    let size = Size {
-        rows,
-        cols: columns,
-    };
-    let times_size = Size {
-        rows: time_rows,
-        cols: time_columns,
-    };
-    let answered = travel_distances_up_to(
-        size, targets, times_size, times, limit, answer, marks, queue,
-    );
+    let targets = sized(rows, columns, targets);
+    let times = sized(time_rows, time_columns, times);
+    let answered = travel_distances_up_to(targets, times, limit, answer, marks, queue);
     report(answered, takes, index)
 }

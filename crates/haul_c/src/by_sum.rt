@@ -3,8 +3,8 @@ ghost use Rattle.std.specs.Prelude.{◌≡◌};
 ghost use Rattle.calls.specs.Promise.{slice};
 ghost use Rattle.haul_c.specs.Export.{ExportedSumWithin, ExportedSumTargets, yes};
 
+use crate::grids::sized;
 use crate::report::report;
-use rules::Size;
 use sums::{sum_targets_within_travel_distance, sum_within_travel_distance};
 
 // 0 is no, any other number yes.
@@ -39,34 +39,12 @@ pub extern "C" fn haul_sum_within_travel_distance(
 ) -> u32
     ensures { ExportedSumWithin rows columns mask.now time_rows time_columns times.now value_rows value_columns values.now limit include_adjacent (slice answer.old answer.new) (slice distances.old distances.new) (slice marks.old marks.new) (slice listed.old listed.new) (slice adjacent.old adjacent.new) (slice queue.old queue.new) takes.old takes.new index.old index.new result }
 {
-    let size = Size {
-        rows,
-        cols: columns,
-    };
-    let times_size = Size {
-        rows: time_rows,
-        cols: time_columns,
-    };
-    let values_size = Size {
-        rows: value_rows,
-        cols: value_columns,
-    };
+    let mask = sized(rows, columns, mask);
+    let times = sized(time_rows, time_columns, times);
+    let values = sized(value_rows, value_columns, values);
     let included = is_yes(include_adjacent);
     let answered = sum_within_travel_distance(
-        size,
-        mask,
-        times_size,
-        times,
-        values_size,
-        values,
-        limit,
-        included,
-        answer,
-        distances,
-        marks,
-        listed,
-        adjacent,
-        queue,
+        mask, times, values, limit, included, answer, distances, marks, listed, adjacent, queue,
     );
     report(answered, takes, index)
 }
@@ -91,25 +69,10 @@ pub extern "C" fn haul_sum_targets_within_travel_distance(
 ) -> u32
     ensures { ExportedSumTargets rows columns times.now amount_rows amount_columns amounts.now limit (slice answer.old answer.new) (slice distances.old distances.new) (slice marks.old marks.new) (slice added.old added.new) (slice queue.old queue.new) takes.old takes.new index.old index.new result }
 {
-    let size = Size {
-        rows,
-        cols: columns,
-    };
-    let amounts_size = Size {
-        rows: amount_rows,
-        cols: amount_columns,
-    };
+    let times = sized(rows, columns, times);
+    let amounts = sized(amount_rows, amount_columns, amounts);
     let answered = sum_targets_within_travel_distance(
-        size,
-        times,
-        amounts_size,
-        amounts,
-        limit,
-        answer,
-        distances,
-        marks,
-        added,
-        queue,
+        times, amounts, limit, answer, distances, marks, added, queue,
     );
     report(answered, takes, index)
 }

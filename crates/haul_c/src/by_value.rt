@@ -2,8 +2,8 @@
 ghost use Rattle.calls.specs.Promise.{slice};
 ghost use Rattle.haul_c.specs.Export.{ExportedClosest, ExportedClosestTravel, ExportedClosestLessThan};
 
+use crate::grids::sized;
 use crate::report::report;
-use rules::Size;
 use values::{
     value_at_closest_less_than_travel_target, value_at_closest_target,
     value_at_closest_travel_target,
@@ -27,24 +27,9 @@ pub extern "C" fn haul_value_at_closest_target(
 ) -> u32
     ensures { ExportedClosest rows columns targets.now value_rows value_columns values.now (slice answer.old answer.new) (slice distances.old distances.new) (slice marks.old marks.new) (slice queue.old queue.new) takes.old takes.new index.old index.new result }
 {
-    let size = Size {
-        rows,
-        cols: columns,
-    };
-    let values_size = Size {
-        rows: value_rows,
-        cols: value_columns,
-    };
-    let answered = value_at_closest_target(
-        size,
-        targets,
-        values_size,
-        values,
-        answer,
-        distances,
-        marks,
-        queue,
-    );
+    let targets = sized(rows, columns, targets);
+    let values = sized(value_rows, value_columns, values);
+    let answered = value_at_closest_target(targets, values, answer, distances, marks, queue);
     report(answered, takes, index)
 }
 
@@ -69,29 +54,11 @@ pub extern "C" fn haul_value_at_closest_travel_target(
 ) -> u32
     ensures { ExportedClosestTravel rows columns targets.now time_rows time_columns times.now value_rows value_columns values.now (slice answer.old answer.new) (slice distances.old distances.new) (slice marks.old marks.new) (slice queue.old queue.new) takes.old takes.new index.old index.new result }
 {
-    let size = Size {
-        rows,
-        cols: columns,
-    };
-    let times_size = Size {
-        rows: time_rows,
-        cols: time_columns,
-    };
-    let values_size = Size {
-        rows: value_rows,
-        cols: value_columns,
-    };
+    let targets = sized(rows, columns, targets);
+    let times = sized(time_rows, time_columns, times);
+    let values = sized(value_rows, value_columns, values);
     let answered = value_at_closest_travel_target(
-        size,
-        targets,
-        times_size,
-        times,
-        values_size,
-        values,
-        answer,
-        distances,
-        marks,
-        queue,
+        targets, times, values, answer, distances, marks, queue,
     );
     report(answered, takes, index)
 }
@@ -118,30 +85,11 @@ pub extern "C" fn haul_value_at_closest_less_than_travel_target(
 ) -> u32
     ensures { ExportedClosestLessThan rows columns targets.now time_rows time_columns times.now value_rows value_columns values.now limit (slice answer.old answer.new) (slice distances.old distances.new) (slice marks.old marks.new) (slice queue.old queue.new) takes.old takes.new index.old index.new result }
 {
-    let size = Size {
-        rows,
-        cols: columns,
-    };
-    let times_size = Size {
-        rows: time_rows,
-        cols: time_columns,
-    };
-    let values_size = Size {
-        rows: value_rows,
-        cols: value_columns,
-    };
+    let targets = sized(rows, columns, targets);
+    let times = sized(time_rows, time_columns, times);
+    let values = sized(value_rows, value_columns, values);
     let answered = value_at_closest_less_than_travel_target(
-        size,
-        targets,
-        times_size,
-        times,
-        values_size,
-        values,
-        limit,
-        answer,
-        distances,
-        marks,
-        queue,
+        targets, times, values, limit, answer, distances, marks, queue,
     );
     report(answered, takes, index)
 }

@@ -12,6 +12,7 @@ mod by_file;
 mod by_sum;
 mod by_value;
 mod environment;
+mod grids;
 mod report;
 
 pub use by_distance::{

@@ -7,8 +7,7 @@ use distances::{distance_with_obstacles, distances_up_to, travel_distances_up_to
 // Search 1, `distances_up_to`.
 pub fn search_1(case: &Case<'_>, lent: &mut Lent<'_>) -> Answer {
     distances_up_to(
-        case.targets.size,
-        case.targets.cells,
+        case.targets,
         case.settings.spacing,
         lent.cells,
         lent.marks,
@@ -19,10 +18,8 @@ pub fn search_1(case: &Case<'_>, lent: &mut Lent<'_>) -> Answer {
 // Search 2, `distance_with_obstacles`.
 pub fn search_2(case: &Case<'_>, lent: &mut Lent<'_>) -> Answer {
     distance_with_obstacles(
-        case.targets.size,
-        case.targets.cells,
-        case.obstacles.size,
-        case.obstacles.cells,
+        case.targets,
+        case.obstacles,
         case.settings.spacing,
         case.settings.diagonals,
         lent.cells,
@@ -34,10 +31,8 @@ pub fn search_2(case: &Case<'_>, lent: &mut Lent<'_>) -> Answer {
 // Search 3, `travel_distances_up_to`.
 pub fn search_3(case: &Case<'_>, lent: &mut Lent<'_>) -> Answer {
     travel_distances_up_to(
-        case.targets.size,
-        case.targets.cells,
-        case.times.size,
-        case.times.cells,
+        case.targets,
+        case.times,
         case.settings.spacing.limit,
         lent.cells,
         lent.marks,

@@ -7,12 +7,9 @@ use sums::{sum_targets_within_travel_distance, sum_within_travel_distance};
 // Search 7, `sum_within_travel_distance`, of which the targets are the mask.
 pub fn search_7(case: &Case<'_>, lent: &mut Lent<'_>) -> Answer {
     sum_within_travel_distance(
-        case.targets.size,
-        case.targets.cells,
-        case.times.size,
-        case.times.cells,
-        case.values.size,
-        case.values.cells,
+        case.targets,
+        case.times,
+        case.values,
         case.settings.spacing.limit,
         case.settings.adjacent,
         lent.cells,
@@ -27,10 +24,8 @@ pub fn search_7(case: &Case<'_>, lent: &mut Lent<'_>) -> Answer {
 // Search 8, `sum_targets_within_travel_distance`, of which the values are the amounts.
 pub fn search_8(case: &Case<'_>, lent: &mut Lent<'_>) -> Answer {
     sum_targets_within_travel_distance(
-        case.times.size,
-        case.times.cells,
-        case.values.size,
-        case.values.cells,
+        case.times,
+        case.values,
         case.settings.spacing.limit,
         lent.cells,
         lent.distances,

@@ -10,10 +10,8 @@ use values::{
 // Search 4, `value_at_closest_target`.
 pub fn search_4(case: &Case<'_>, lent: &mut Lent<'_>) -> Answer {
     value_at_closest_target(
-        case.targets.size,
-        case.targets.cells,
-        case.values.size,
-        case.values.cells,
+        case.targets,
+        case.values,
         lent.cells,
         lent.distances,
         lent.marks,
@@ -24,12 +22,9 @@ pub fn search_4(case: &Case<'_>, lent: &mut Lent<'_>) -> Answer {
 // Search 5, `value_at_closest_travel_target`.
 pub fn search_5(case: &Case<'_>, lent: &mut Lent<'_>) -> Answer {
     value_at_closest_travel_target(
-        case.targets.size,
-        case.targets.cells,
-        case.times.size,
-        case.times.cells,
-        case.values.size,
-        case.values.cells,
+        case.targets,
+        case.times,
+        case.values,
         lent.cells,
         lent.distances,
         lent.marks,
@@ -40,12 +35,9 @@ pub fn search_5(case: &Case<'_>, lent: &mut Lent<'_>) -> Answer {
 // Search 6, `value_at_closest_less_than_travel_target`.
 pub fn search_6(case: &Case<'_>, lent: &mut Lent<'_>) -> Answer {
     value_at_closest_less_than_travel_target(
-        case.targets.size,
-        case.targets.cells,
-        case.times.size,
-        case.times.cells,
-        case.values.size,
-        case.values.cells,
+        case.targets,
+        case.times,
+        case.values,
         case.settings.spacing.limit,
         lent.cells,
         lent.distances,

@@ -4,7 +4,7 @@ ghost use Rattle.sums.specs.Promise.{Sums, summed, PromisedGains, SumTargetsWith
 
 use crate::amounts::{Amounts, search_amounts};
 use calls::{Answer, Counts, fill, judge_8, settle};
-use rules::Size;
+use rules::{Grid, Size};
 
 // The sums once no test refuses: every cell gains the amounts that it is in reach of, and the work buffers are left zero.
 fn sum_targets(
@@ -40,10 +40,8 @@ fn sum_targets(
 // The sum of the amounts within reach, for each cell.
 #[tactic(auto, using(crate::proofs::TargetSums::sums_ask, crate::proofs::TargetSums::sums_are), unfolding(rules::specs::Sums::outcome_8))]
 pub fn sum_targets_within_travel_distance(
-    times_size: Size,
-    times: &[f32],
-    amounts_size: Size,
-    amounts: &[f32],
+    times: Grid<'_, f32>,
+    amounts: Grid<'_, f32>,
     limit: f32,
     answer: &mut [f32],
     distances: &mut [f32],
@@ -51,18 +49,24 @@ pub fn sum_targets_within_travel_distance(
     added: &mut [u8],
     queue: &mut [u32],
 ) -> Answer
-    ensures { SumTargetsWithinTravelDistance times_size times.now amounts_size amounts.now limit (slice answer.old answer.new) (slice distances.old distances.new) (slice marks.old marks.new) (slice added.old added.new) (slice queue.old queue.new) result }
+    ensures { SumTargetsWithinTravelDistance times.entry.size times.entry.cells.now amounts.entry.size amounts.entry.cells.now limit (slice answer.old answer.new) (slice distances.old distances.new) (slice marks.old marks.new) (slice added.old added.new) (slice queue.old queue.new) result }
 {
     judge_8(
-        times_size,
         times,
-        amounts_size,
         amounts,
         limit,
         &[answer.len(), distances.len(), marks.len(), added.len()],
         queue.len(),
     )?;
     Ok(sum_targets(
-        times_size, times, amounts, limit, answer, distances, marks, added, queue,
+        times.size,
+        times.cells,
+        amounts.cells,
+        limit,
+        answer,
+        distances,
+        marks,
+        added,
+        queue,
     ))
 }

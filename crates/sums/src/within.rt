@@ -6,7 +6,7 @@ ghost use Rattle.sums.specs.Promise.{PromisedSums, SumWithinTravelDistance};
 use crate::mask::search_mask;
 use crate::mask_cell::{OverBudget, Within};
 use calls::{Answer, Counts, Refusal, fill, fill_nan, judge_7, settle};
-use rules::Size;
+use rules::{Grid, Size};
 
 // Leaves the answer as the searches found it, or all NaN where one was over the budget.
 fn leave_answer(found: Result<u64, OverBudget>, answer: &mut [f32]) -> Answer
@@ -64,12 +64,9 @@ fn sum_mask(
 // The sum of the values within reach of each mask cell.
 #[tactic(auto, using(crate::proofs::WithinSums::mask_given, crate::proofs::WithinSums::mask_outcome_is), unfolding(rules::specs::Sums::outcome_7))]
 pub fn sum_within_travel_distance(
-    mask_size: Size,
-    mask: &[u8],
-    times_size: Size,
-    times: &[f32],
-    values_size: Size,
-    values: &[f32],
+    mask: Grid<'_, u8>,
+    times: Grid<'_, f32>,
+    values: Grid<'_, f32>,
     limit: f32,
     include_adjacent: bool,
     answer: &mut [f32],
@@ -79,14 +76,11 @@ pub fn sum_within_travel_distance(
     adjacent: &mut [u32],
     queue: &mut [u32],
 ) -> Answer
-    ensures { SumWithinTravelDistance mask_size mask.now times_size times.now values_size values.now limit include_adjacent (slice answer.old answer.new) (slice distances.old distances.new) (slice marks.old marks.new) (slice listed.old listed.new) (slice adjacent.old adjacent.new) (slice queue.old queue.new) result }
+    ensures { SumWithinTravelDistance mask.entry.size mask.entry.cells.now times.entry.size times.entry.cells.now values.entry.size values.entry.cells.now limit include_adjacent (slice answer.old answer.new) (slice distances.old distances.new) (slice marks.old marks.new) (slice listed.old listed.new) (slice adjacent.old adjacent.new) (slice queue.old queue.new) result }
 {
     judge_7(
-        mask_size,
         mask,
-        times_size,
         times,
-        values_size,
         values,
         limit,
         &[
@@ -99,10 +93,10 @@ pub fn sum_within_travel_distance(
         queue.len(),
     )?;
     sum_mask(
-        mask_size,
-        mask,
-        times,
-        values,
+        mask.size,
+        mask.cells,
+        times.cells,
+        values.cells,
         limit,
         include_adjacent,
         answer,

@@ -11,7 +11,7 @@ use Rattle.distances.proofs.obstacles.distance_with_obstacles.Goals as goal
 pub search_distances-requires : goal.search_distances-requires
 search_distances-requires c =
     let a = c.args in
-    obstacles_searches a.targets_size a.targets.now a.obstacles.now a.spacing _ plus_zero a.obstacles_size a.answer.now a.marks.now a.queue.now (sym c.in_ok-judge_2.ensures)
+    obstacles_searches a.targets.size a.targets.cells.now a.obstacles.cells.now a.spacing _ plus_zero a.obstacles.size a.answer.now a.marks.now a.queue.now (sym c.in_ok-judge_2.ensures)
 
 pub returns-in_err-judge_2 : goal.returns-in_err-judge_2
 unfolding outcome_2

@@ -7,4 +7,4 @@ use Rattle.distances.proofs.travel.travel_distances_up_to.Goals as goal
 
 pub returns-in_err-judge_3 : goal.returns-in_err-judge_3
 unfolding outcome_3
-returns-in_err-judge_3 c = promised_refused _ _ c.in_err-judge_3.ensures (search rules) (quiet_3 _ _ _ _) _ _ _
+returns-in_err-judge_3 c = promised_refused _ _ c.in_err-judge_3.ensures.judged (search rules) (quiet_3 _ _ _ _) _ _ _

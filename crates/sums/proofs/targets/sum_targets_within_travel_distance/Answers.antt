@@ -7,4 +7,4 @@ use Rattle.sums.proofs.targets.sum_targets_within_travel_distance.Goals as goal
 
 pub returns-in_err-judge_8 : goal.returns-in_err-judge_8
 unfolding outcome_8
-returns-in_err-judge_8 c = gains_refused _ _ c.in_err-judge_8.ensures (search rules) (quiet_8 _ _ _ _) _ _ _ _ _
+returns-in_err-judge_8 c = gains_refused _ _ c.in_err-judge_8.ensures.judged (search rules) (quiet_8 _ _ _ _) _ _ _ _ _

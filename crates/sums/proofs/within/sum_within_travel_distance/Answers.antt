@@ -7,4 +7,4 @@ use Rattle.sums.proofs.within.sum_within_travel_distance.Goals as goal
 
 pub returns-in_err-judge_7 : goal.returns-in_err-judge_7
 unfolding outcome_7
-returns-in_err-judge_7 c = sums_refused _ _ c.in_err-judge_7.ensures (search rules) (quiet_7 _ _ _ _ _) _ _ _ _ _ _
+returns-in_err-judge_7 c = sums_refused _ _ c.in_err-judge_7.ensures.judged (search rules) (quiet_7 _ _ _ _ _) _ _ _ _ _ _

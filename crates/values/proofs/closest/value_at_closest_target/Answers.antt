@@ -10,7 +10,7 @@ use Rattle.values.proofs.closest.value_at_closest_target.Goals as goal
 pub search_values-requires : goal.search_values-requires
 search_values-requires c =
     let a = c.args in
-    closest_searches a.targets_size a.targets.now a.values_size a.values.now plus_zero a.answer.now a.distances.now a.marks.now a.queue.now (sym c.in_ok-judge_4.ensures)
+    closest_searches a.targets.size a.targets.cells.now a.values.size a.values.cells.now plus_zero a.answer.now a.distances.now a.marks.now a.queue.now (sym c.in_ok-judge_4.ensures)
 
 pub returns-in_err-judge_4 : goal.returns-in_err-judge_4
 unfolding outcome_4

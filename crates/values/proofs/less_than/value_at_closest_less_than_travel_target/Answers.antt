@@ -7,4 +7,4 @@ use Rattle.values.proofs.less_than.value_at_closest_less_than_travel_target.Goal
 
 pub returns-in_err-judge_6 : goal.returns-in_err-judge_6
 unfolding outcome_6
-returns-in_err-judge_6 c = values_refused _ _ c.in_err-judge_6.ensures (search rules) (quiet_6 _ _ _ _ _) _ _ _ _
+returns-in_err-judge_6 c = values_refused _ _ c.in_err-judge_6.ensures.judged (search rules) (quiet_6 _ _ _ _ _) _ _ _ _

@@ -7,4 +7,4 @@ use Rattle.values.proofs.travel.value_at_closest_travel_target.Goals as goal
 
 pub returns-in_err-judge_5 : goal.returns-in_err-judge_5
 unfolding outcome_5
-returns-in_err-judge_5 c = values_refused _ _ c.in_err-judge_5.ensures (search rules) (quiet_5 _ _ _ _) _ _ _ _
+returns-in_err-judge_5 c = values_refused _ _ c.in_err-judge_5.ensures.judged (search rules) (quiet_5 _ _ _ _) _ _ _ _
