@@ -2,7 +2,7 @@
 ghost use Rattle.std.specs.Prelude.{◌≡◌};
 ghost use Rattle.rules.specs.Distances.{scaled};
 
-use binary32::one_nan;
+use binary32::{is_nodata, nan, one_nan};
 use rules::Spacing;
 
 // Multiplies every distance by the cell size.
@@ -21,6 +21,8 @@ pub fn settle(answer: &mut [f32])
     ensures { answer.new ≡ answer.old }
 {
     for cell in answer.iter_mut() {
-        *cell = one_nan(*cell);
+        if is_nodata(*cell) {
+            *cell = nan();
+        }
     }
 }

@@ -9,7 +9,7 @@ use crate::formulas::Formula;
 use crate::relax::{Left, relax};
 use crate::search::Search;
 use crate::steps::Avoids;
-use cells::{OFFSETS, neighbour_at, place_of};
+use cells::{OFFSETS, STRAIGHT, neighbour_at, place_of};
 
 // Tries what stands at an offset, if anything does.
 fn relax_there<F: Formula, A: Avoids, const CARRYING: bool>(
@@ -44,9 +44,9 @@ pub fn scan_edge<F: Formula, A: Avoids, const CARRYING: bool>(
     ensures same { SameLoans b.old b.new }
 {
     let place = place_of(search.size, left.cell);
-    for k in 0..8 {
-        let diagonal = 4 <= k;
-        let there = neighbour_at(search.size, place, OFFSETS[k]);
+    for (k, offset) in OFFSETS.iter().enumerate() {
+        let diagonal = STRAIGHT <= k;
+        let there = neighbour_at(search.size, place, *offset);
         relax_there::<F, A, CARRYING>(search, diagonal, ground, left, there, b);
     }
 }

@@ -1,5 +1,5 @@
-use Rattle.calls.proofs.Turns.{MappedBelow}
+use Rattle.std.proofs.Common.{◌≡◌}
 use Rattle.calls.proofs.scaling.settle.Given as goal
 
 abbrev pub invariant-loop-cell : goal.invariant-loop-cell
-invariant-loop-cell l = MappedBelow (λ a. a) l.initial.answer l.answer l.cell-index
+invariant-loop-cell l = l.answer ≡ l.initial.answer
