@@ -1,4 +1,4 @@
--- What the code's own steps find, for the contracts of its inner functions. Document 01's form is in Fields and Request. Definitions only.
+-- What the code's own steps find, for the contracts of its inner functions and of `grids`. Document 01's form is in Fields and Request. Definitions only.
 use Rattle.std.specs.Prelude.{Bool, false, cond, ◌&&◌, List, ℕ, ◌+◌, leb, eqb, length, Option, Some, None}
 use Rattle.rules.specs.Sizes.{any}
 use Rattle.gridfile.specs.Fields.{Part, part, Fields, cut, whole, byte, u16_of, tags}

@@ -59,7 +59,7 @@ const NONE: Has = Has {
 #[tactic(auto, unfolding(crate::specs::Request::grids_of, rules::specs::Sizes::any))]
 impl Search {
     // The table of the grids that each search has.
-    pub(crate) fn grids(self) -> Has
+    pub fn grids(self) -> Has
         ensures { result ≡ has_of (grids_of (search_number self)) }
     {
         match self {

@@ -1,20 +1,9 @@
--- The numbers of the searches. Definitions only.
-use Rattle.std.specs.Prelude.{ℕ, ◌≡◌, ◌≤◌, ◌<◌, Result, MatchResult}
-use Rattle.replay.specs.declared.kinds.Search.{Search}
-use Rattle.replay.specs.declared.kinds.Search.TheVariants.{DistancesUpTo, DistanceWithObstacles, TravelDistancesUpTo, ValueAtClosestTarget, ValueAtClosestTravelTarget, ValueAtClosestLessThanTravelTarget, SumWithinTravelDistance, SumTargetsWithinTravelDistance}
-use Rattle.replay.specs.declared.kinds.NoSuchSearch.{NoSuchSearch}
+-- The grids of a case, by their tags in a file. Definitions only.
+use Rattle.std.specs.Prelude.{ℕ, List, [], ◌∷◌, Option, Some, None}
+use Rattle.gridfile.specs.Request.{search_number, grids_of}
+use Rattle.gridfile.specs.declared.searches.Search.{Search}
 
--- Document 01's number of a search.
-abbrev pub number_of : Search → ℕ
-number_of DistancesUpTo = 1
-number_of DistanceWithObstacles = 2
-number_of TravelDistancesUpTo = 3
-number_of ValueAtClosestTarget = 4
-number_of ValueAtClosestTravelTarget = 5
-number_of ValueAtClosestLessThanTravelTarget = 6
-number_of SumWithinTravelDistance = 7
-number_of SumTargetsWithinTravelDistance = 8
-
--- The search of a number, or that the number is 0 or above 8.
-abbrev pub IsSearchOf : ℕ → Result Search NoSuchSearch → Type 0
-IsSearchOf n r = MatchResult r (λ search. number_of search ≡ n) (λ none. (none.0 ≡ n) × (1 ≤ n → 8 < n))
+-- Those of its search. A case of no search has targets alone.
+abbrev pub tags_of : Option Search → List ℕ
+tags_of (Some search) = grids_of (search_number search)
+tags_of None = 0x04 ∷ []

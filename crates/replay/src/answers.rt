@@ -1,16 +1,17 @@
 // What the library answered, held against what is stored.
 ghost use Rattle.std.specs.Prelude.{◌≡◌, ◌≤◌, IsTrue};
+ghost use Rattle.gridfile.specs.Request.{search_number};
 ghost use Rattle.replay.specs.Buffers.{AllAre, AllHave, SameBits, left_of, dirty_byte, dirty_word, dirty_float};
-ghost use Rattle.replay.specs.Search.{number_of};
 ghost use Rattle.replay.specs.Stored.{Tells, clears};
 
 use crate::buffers::{left, same_bits};
 use crate::case::Case;
-use crate::kinds::Search;
+use crate::kinds::{is_lent_added, is_lent_distances, is_lent_lists};
 use crate::lent::Lent;
 use crate::stored;
 use crate::stored::Told;
 use calls::{Answer, Numbered};
+use gridfile::Search;
 
 // What the library answered, by its numbers.
 fn told_of(answer: Answer) -> Told
@@ -28,17 +29,17 @@ pub fn as_stored(answer: Answer, search: Search, case: &Case<'_>, lent: &Lent<'_
     ensures cells { IsTrue result → SameBits lent.now.cells.now case.now.bits.now }
     ensures marks { IsTrue result → AllAre lent.now.marks.now (left_of dirty_byte (clears case.now.told)) }
     ensures queue { IsTrue result → AllAre lent.now.queue.now (left_of dirty_word (clears case.now.told)) }
-    ensures distances { IsTrue result → 4 ≤ number_of search → AllHave lent.now.distances.now (left_of dirty_float (clears case.now.told)) }
-    ensures listed { IsTrue result → number_of search ≡ 7 → AllAre lent.now.listed.now (left_of dirty_word (clears case.now.told)) }
-    ensures adjacent { IsTrue result → number_of search ≡ 7 → AllAre lent.now.adjacent.now (left_of dirty_word (clears case.now.told)) }
-    ensures added { IsTrue result → number_of search ≡ 8 → AllAre lent.now.added.now (left_of dirty_byte (clears case.now.told)) }
+    ensures distances { IsTrue result → 4 ≤ search_number search → AllHave lent.now.distances.now (left_of dirty_float (clears case.now.told)) }
+    ensures listed { IsTrue result → search_number search ≡ 7 → AllAre lent.now.listed.now (left_of dirty_word (clears case.now.told)) }
+    ensures adjacent { IsTrue result → search_number search ≡ 7 → AllAre lent.now.adjacent.now (left_of dirty_word (clears case.now.told)) }
+    ensures added { IsTrue result → search_number search ≡ 8 → AllAre lent.now.added.now (left_of dirty_byte (clears case.now.told)) }
 {
     let cleared = stored::cleared(case.told);
     told_of(answer) == case.told
         && same_bits(lent.cells, case.bits)
         && left(lent.marks, cleared)
         && left(lent.queue, cleared)
-        && (!search.has_values() || left(lent.distances, cleared))
-        && (!search.has_lists() || (left(lent.listed, cleared) && left(lent.adjacent, cleared)))
-        && (!search.has_added() || left(lent.added, cleared))
+        && (!is_lent_distances(search) || left(lent.distances, cleared))
+        && (!is_lent_lists(search) || (left(lent.listed, cleared) && left(lent.adjacent, cleared)))
+        && (!is_lent_added(search) || left(lent.added, cleared))
 }

@@ -4,11 +4,10 @@ ghost use Rattle.replay.specs.Buffers.{most_answer_cells};
 ghost use Rattle.replay.specs.Reading.{GoesOn};
 
 use crate::grids::{CELLS, Cell, SLOTS};
-use crate::kinds::Search;
 use crate::settings::Settings;
 use crate::stored::Told;
 use crate::words::{Malformed, Reader};
-use crate::{grids, settings, stored};
+use crate::{grids, kinds, settings, stored};
 use rules::Grid;
 
 // Where the cells of a case's grids are put, and the bits that its answer must hold after the call.
@@ -76,18 +75,13 @@ pub fn read_case<'a>(reader: &mut Reader<'_>, room: &'a mut Room) -> Result<Case
         bits,
     } = room;
     let settings = settings::head(reader)?;
-    let search = settings.search;
-    // A case of no search has targets alone.
-    let has_targets = search.is_none_or(Search::has_targets);
-    let has_obstacles = search.is_some_and(Search::has_obstacles);
-    let has_times = search.is_some_and(Search::has_times);
-    let has_values = search.is_some_and(Search::has_values);
-    let targets = grid_if(has_targets, reader, b"targets ", targets)?;
-    let obstacles = grid_if(has_obstacles, reader, b"obstacles ", obstacles)?;
-    let times = grid_if(has_times, reader, b"times ", times)?;
-    let values = grid_if(has_values, reader, b"values ", values)?;
+    let has = kinds::grids_of(settings.search);
+    let targets = grid_if(has.targets, reader, b"targets ", targets)?;
+    let obstacles = grid_if(has.obstacles, reader, b"obstacles ", obstacles)?;
+    let times = grid_if(has.times, reader, b"times ", times)?;
+    let values = grid_if(has.values, reader, b"values ", values)?;
     // The answer has the size of the search's first grid.
-    let size = if has_targets {
+    let size = if has.targets {
         targets.size
     } else {
         times.size

@@ -1,90 +1,56 @@
-// The eight searches.
-ghost use Rattle.std.specs.Prelude.{◌≡◌, ◌≤◌, ◌↔◌, ◌⊎◌, IsTrue};
-ghost use Rattle.replay.specs.Search.{number_of, IsSearchOf};
+// What a case asks of its search.
+ghost use Rattle.std.specs.Prelude.{◌≡◌, ◌≤◌, ◌↔◌, IsTrue};
+ghost use Rattle.std.specs.Result.{result_ok};
+ghost use Rattle.gridfile.specs.Lookups.{has_of};
+ghost use Rattle.gridfile.specs.Request.{search_number, search_asked};
+ghost use Rattle.replay.specs.Search.{tags_of};
 
-// A search, in the order of document 01's numbers, from 1 on.
-#[derive(Clone, Copy, Debug, PartialEq, Eq)]
-pub enum Search {
-    DistancesUpTo,
-    DistanceWithObstacles,
-    TravelDistancesUpTo,
-    ValueAtClosestTarget,
-    ValueAtClosestTravelTarget,
-    ValueAtClosestLessThanTravelTarget,
-    SumWithinTravelDistance,
-    SumTargetsWithinTravelDistance,
+use gridfile::{Has, Search};
+
+// The search with a number, if there is one.
+pub fn numbered(number: u64) -> Option<Search>
+    ensures { result ≡ result_ok (search_asked number) }
+{
+    let number = u8::try_from(number).ok()?;
+    Search::try_from(number).ok()
 }
 
-// A number that no search has.
-#[derive(Clone, Copy, Debug, PartialEq, Eq)]
-pub struct NoSuchSearch(pub u64);
-
-impl TryFrom<u64> for Search {
-    type Error = NoSuchSearch;
-
-    ghost try_from_gives = { IsSearchOf };
-
-    fn try_from(number: u64) -> Result<Self, NoSuchSearch> {
-        match number {
-            1 => Ok(Search::DistancesUpTo),
-            2 => Ok(Search::DistanceWithObstacles),
-            3 => Ok(Search::TravelDistancesUpTo),
-            4 => Ok(Search::ValueAtClosestTarget),
-            5 => Ok(Search::ValueAtClosestTravelTarget),
-            6 => Ok(Search::ValueAtClosestLessThanTravelTarget),
-            7 => Ok(Search::SumWithinTravelDistance),
-            8 => Ok(Search::SumTargetsWithinTravelDistance),
-            _ => Err(NoSuchSearch(number)),
-        }
+// The grids of a case. One of no search has targets alone.
+#[tactic(auto, unfolding(rules::specs::Sizes::any))]
+pub fn grids_of(search: Option<Search>) -> Has
+    ensures { result ≡ has_of (tags_of search) }
+{
+    match search {
+        Some(search) => search.grids(),
+        None => Has {
+            targets: true,
+            obstacles: false,
+            times: false,
+            values: false,
+        },
     }
 }
 
-impl Search {
-    // Whether the search has a grid of targets.
-    pub fn has_targets(self) -> bool
-        ensures { IsTrue result ↔ (number_of self ≤ 7) }
-    {
-        self != Search::SumTargetsWithinTravelDistance
-    }
+// Whether a search is lent distances beside its answer.
+pub fn is_lent_distances(search: Search) -> bool
+    ensures { IsTrue result ↔ (4 ≤ search_number search) }
+{
+    !matches!(
+        search,
+        Search::DistancesUpTo | Search::DistanceWithObstacles | Search::TravelDistancesUpTo
+    )
+}
 
-    // Whether the search has a grid of obstacles.
-    pub fn has_obstacles(self) -> bool
-        ensures { IsTrue result ↔ (number_of self ≡ 2) }
-    {
-        self == Search::DistanceWithObstacles
-    }
+// Whether a search is lent two lists of cells.
+pub fn is_lent_lists(search: Search) -> bool
+    ensures { IsTrue result ↔ (search_number search ≡ 7) }
+{
+    matches!(search, Search::SumWithinTravelDistance)
+}
 
-    // Whether the search has a grid of times.
-    pub fn has_times(self) -> bool
-        ensures { IsTrue result ↔ ((number_of self ≡ 3) ⊎ (5 ≤ number_of self)) }
-    {
-        !matches!(
-            self,
-            Search::DistancesUpTo | Search::DistanceWithObstacles | Search::ValueAtClosestTarget
-        )
-    }
-
-    // Whether the search has a grid of values, and is lent distances beside its answer.
-    pub fn has_values(self) -> bool
-        ensures { IsTrue result ↔ (4 ≤ number_of self) }
-    {
-        !matches!(
-            self,
-            Search::DistancesUpTo | Search::DistanceWithObstacles | Search::TravelDistancesUpTo
-        )
-    }
-
-    // Whether the search is lent two lists of cells.
-    pub fn has_lists(self) -> bool
-        ensures { IsTrue result ↔ (number_of self ≡ 7) }
-    {
-        self == Search::SumWithinTravelDistance
-    }
-
-    // Whether the search is lent marks of the cells that it has added.
-    pub fn has_added(self) -> bool
-        ensures { IsTrue result ↔ (number_of self ≡ 8) }
-    {
-        self == Search::SumTargetsWithinTravelDistance
-    }
+// Whether a search is lent marks of the cells that it has added.
+pub fn is_lent_added(search: Search) -> bool
+    ensures { IsTrue result ↔ (search_number search ≡ 8) }
+{
+    matches!(search, Search::SumTargetsWithinTravelDistance)
 }

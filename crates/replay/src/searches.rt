@@ -2,10 +2,10 @@
 use crate::buffers::Held;
 use crate::case::Case;
 use crate::grids::{CELLS, SLOTS};
-use crate::kinds::Search;
 use crate::lent::Lent;
 use crate::{answers, by_distance, by_sum, by_value};
 use calls::Answer;
+use gridfile::Search;
 
 // What the search answers.
 fn run(search: Search, case: &Case<'_>, lent: &mut Lent<'_>) -> Answer {

@@ -2,8 +2,9 @@
 ghost use Rattle.std.specs.Prelude.{◌<◌, IfOk};
 ghost use Rattle.replay.specs.Reading.{GoesOn};
 
-use crate::kinds::Search;
+use crate::kinds;
 use crate::words::{Malformed, Reader};
+use gridfile::Search;
 use rules::{BarrierDiagonals, Spacing};
 
 // The greatest number of a search.
@@ -40,7 +41,7 @@ pub fn head(reader: &mut Reader<'_>) -> Result<Settings, Malformed>
     ensures further { IfOk result (λ _. reader.old.pos < reader.new.pos) }
 {
     reader.literal(b"search ")?;
-    let search = Search::try_from(reader.decimal(LAST_SEARCH)?).ok();
+    let search = kinds::numbered(reader.decimal(LAST_SEARCH)?);
     let excludes = flag(reader, b" diagonals ")?;
     let adjacent = flag(reader, b" adjacent ")?;
     let cell_size = float(reader, b"\ncell_size ")?;
