@@ -2,7 +2,7 @@
 pub mod Turns
 pub mod Scans
 pub mod RowScans
-pub mod Lengths
+pub mod Measured
 pub mod Shapes
 pub mod Cases
 pub mod Decided

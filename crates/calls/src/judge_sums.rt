@@ -9,7 +9,7 @@ ghost use Rattle.calls.specs.Given.{Held, lent};
 
 use crate::answer::Refusal;
 use crate::limits::judge_budget;
-use crate::shape::judge_shape;
+use crate::shape::{Lengths, judge_shape};
 use crate::times::first_negative;
 use rules::{Grid, Size};
 
@@ -30,18 +30,16 @@ pub fn judge_7(
     times: Grid<'_, f32>,
     values: Grid<'_, f32>,
     budget: f32,
-    lent_lengths: &[usize],
-    queue_length: usize,
+    lengths: Lengths<'_>,
 ) -> Result<(), Refusal>
     ensures held { OnOk result (Held times.entry.cells.now) }
-    ensures judged { judged_as result ≡ refusals_7 (grid mask.entry.size mask.entry.cells.now) (grid times.entry.size times.entry.cells.now) (grid values.entry.size values.entry.cells.now) budget (lent lent_lengths.now queue_length) }
+    ensures judged { judged_as result ≡ refusals_7 (grid mask.entry.size mask.entry.cells.now) (grid times.entry.size times.entry.cells.now) (grid values.entry.size values.entry.cells.now) budget (lent lengths.entry.slices.now lengths.entry.queue) }
 {
     judge_shape(
         mask.size,
         &[times.size, values.size],
         &[mask.cells.len(), times.cells.len(), values.cells.len()],
-        lent_lengths,
-        queue_length,
+        lengths,
     )?;
     judge_budget_and_times(budget, mask.size, times.cells)
 }
@@ -51,18 +49,16 @@ pub fn judge_8(
     times: Grid<'_, f32>,
     amounts: Grid<'_, f32>,
     budget: f32,
-    lent_lengths: &[usize],
-    queue_length: usize,
+    lengths: Lengths<'_>,
 ) -> Result<(), Refusal>
     ensures held { OnOk result (Held times.entry.cells.now) }
-    ensures judged { judged_as result ≡ refusals_8 (grid times.entry.size times.entry.cells.now) (grid amounts.entry.size amounts.entry.cells.now) budget (lent lent_lengths.now queue_length) }
+    ensures judged { judged_as result ≡ refusals_8 (grid times.entry.size times.entry.cells.now) (grid amounts.entry.size amounts.entry.cells.now) budget (lent lengths.entry.slices.now lengths.entry.queue) }
 {
     judge_shape(
         times.size,
         &[amounts.size],
         &[times.cells.len(), amounts.cells.len()],
-        lent_lengths,
-        queue_length,
+        lengths,
     )?;
     judge_budget_and_times(budget, times.size, times.cells)
 }

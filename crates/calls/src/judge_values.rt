@@ -9,7 +9,7 @@ ghost use Rattle.calls.specs.Given.{Held, lent};
 
 use crate::answer::Refusal;
 use crate::limits::judge_limit;
-use crate::shape::judge_shape;
+use crate::shape::{Lengths, judge_shape};
 use crate::times::first_negative;
 use rules::Grid;
 
@@ -17,17 +17,15 @@ use rules::Grid;
 pub fn judge_4(
     targets: Grid<'_, u8>,
     values: Grid<'_, f32>,
-    lent_lengths: &[usize],
-    queue_length: usize,
+    lengths: Lengths<'_>,
 ) -> Result<(), Refusal>
-    ensures { judged_as result ≡ refusals_4 (grid targets.entry.size targets.entry.cells.now) (grid values.entry.size values.entry.cells.now) (lent lent_lengths.now queue_length) }
+    ensures { judged_as result ≡ refusals_4 (grid targets.entry.size targets.entry.cells.now) (grid values.entry.size values.entry.cells.now) (lent lengths.entry.slices.now lengths.entry.queue) }
 {
     judge_shape(
         targets.size,
         &[values.size],
         &[targets.cells.len(), values.cells.len()],
-        lent_lengths,
-        queue_length,
+        lengths,
     )
 }
 
@@ -36,18 +34,16 @@ pub fn judge_5(
     targets: Grid<'_, u8>,
     times: Grid<'_, f32>,
     values: Grid<'_, f32>,
-    lent_lengths: &[usize],
-    queue_length: usize,
+    lengths: Lengths<'_>,
 ) -> Result<(), Refusal>
     ensures held { OnOk result (Held times.entry.cells.now) }
-    ensures judged { judged_as result ≡ refusals_5 (grid targets.entry.size targets.entry.cells.now) (grid times.entry.size times.entry.cells.now) (grid values.entry.size values.entry.cells.now) (lent lent_lengths.now queue_length) }
+    ensures judged { judged_as result ≡ refusals_5 (grid targets.entry.size targets.entry.cells.now) (grid times.entry.size times.entry.cells.now) (grid values.entry.size values.entry.cells.now) (lent lengths.entry.slices.now lengths.entry.queue) }
 {
     judge_shape(
         targets.size,
         &[times.size, values.size],
         &[targets.cells.len(), times.cells.len(), values.cells.len()],
-        lent_lengths,
-        queue_length,
+        lengths,
     )?;
     first_negative(targets.size, times.cells)
 }
@@ -58,18 +54,16 @@ pub fn judge_6(
     times: Grid<'_, f32>,
     values: Grid<'_, f32>,
     limit: f32,
-    lent_lengths: &[usize],
-    queue_length: usize,
+    lengths: Lengths<'_>,
 ) -> Result<(), Refusal>
     ensures held { OnOk result (Held times.entry.cells.now) }
-    ensures judged { judged_as result ≡ refusals_6 (grid targets.entry.size targets.entry.cells.now) (grid times.entry.size times.entry.cells.now) (grid values.entry.size values.entry.cells.now) limit (lent lent_lengths.now queue_length) }
+    ensures judged { judged_as result ≡ refusals_6 (grid targets.entry.size targets.entry.cells.now) (grid times.entry.size times.entry.cells.now) (grid values.entry.size values.entry.cells.now) limit (lent lengths.entry.slices.now lengths.entry.queue) }
 {
     judge_shape(
         targets.size,
         &[times.size, values.size],
         &[targets.cells.len(), times.cells.len(), values.cells.len()],
-        lent_lengths,
-        queue_length,
+        lengths,
     )?;
     judge_limit(limit)?;
     first_negative(targets.size, times.cells)

@@ -26,3 +26,4 @@ pub use judge_sums::{judge_7, judge_8};
 pub use judge_values::{judge_4, judge_5, judge_6};
 pub use numbers::Numbered;
 pub use scaling::{scale, settle};
+pub use shape::Lengths;

@@ -9,6 +9,13 @@ use crate::answer::Refusal;
 use cells::{cell_count, in_bounds};
 use rules::Size;
 
+// The lengths of what a call is lent: those of the answer and of the work buffers in their order, and that of the queue.
+#[derive(Clone, Copy)]
+pub struct Lengths<'a> {
+    pub slices: &'a [usize],
+    pub queue: usize,
+}
+
 // Whether a size breaks the bounds.
 fn any_out_of_bounds(sizes: &[Size]) -> bool
     ensures { result ≡ list_any out_of_bounds sizes.now }
@@ -38,32 +45,26 @@ fn any_other(n: usize, lengths: &[usize]) -> bool
 }
 
 // 3: whether a slice has not its length: n, or n + 1 for the queue.
-#[tactic(auto, using(crate::proofs::Lengths::lengths_tested))]
-fn wrong_length(
-    size: Size,
-    input_lengths: &[usize],
-    lent_lengths: &[usize],
-    queue_length: usize,
-) -> bool
+#[tactic(auto, using(crate::proofs::Measured::lengths_tested))]
+fn wrong_length(size: Size, input_lengths: &[usize], lengths: Lengths<'_>) -> bool
     requires { T (in_bounds size) }
-    ensures { result ≡ wrong_length size input_lengths.now (lent lent_lengths.now queue_length) }
+    ensures { result ≡ wrong_length size input_lengths.now (lent lengths.entry.slices.now lengths.entry.queue) }
 {
     let n = cell_count(size);
-    any_other(n, input_lengths) || any_other(n, lent_lengths) || queue_length != n + 1
+    any_other(n, input_lengths) || any_other(n, lengths.slices) || lengths.queue != n + 1
 }
 
 // 1 to 3, in this order: the size of the first input grid, those of the others, and the lengths of all slices.
-#[tactic(auto, using(crate::proofs::Lengths::lengths_tested), unfolding(rules::specs::Sizes::shape, rules::specs::Sizes::first_that_holds))]
+#[tactic(auto, using(crate::proofs::Measured::lengths_tested), unfolding(rules::specs::Sizes::shape, rules::specs::Sizes::first_that_holds))]
 pub fn judge_shape(
     size: Size,
     others: &[Size],
     input_lengths: &[usize],
-    lent_lengths: &[usize],
-    queue_length: usize,
+    lengths: Lengths<'_>,
 ) -> Result<(), Refusal>
     ensures bounded { OnOk result (T (in_bounds size)) }
     ensures whole { OnOk result (All (λ n. n ≡ count size) input_lengths.now) }
-    ensures judged { judged_as result ≡ first_that_holds (shape size others.now input_lengths.now (lent lent_lengths.now queue_length) []) }
+    ensures judged { judged_as result ≡ first_that_holds (shape size others.now input_lengths.now (lent lengths.entry.slices.now lengths.entry.queue) []) }
 {
     if !in_bounds(size) || any_out_of_bounds(others) {
         return Err(Refusal::SizeOutOfBounds);
@@ -71,7 +72,7 @@ pub fn judge_shape(
     if any_differs(size, others) {
         return Err(Refusal::SizesDiffer);
     }
-    if wrong_length(size, input_lengths, lent_lengths, queue_length) {
+    if wrong_length(size, input_lengths, lengths) {
         return Err(Refusal::WrongLength);
     }
     Ok(())

@@ -3,7 +3,7 @@ ghost use Rattle.calls.specs.Promise.{slice};
 ghost use Rattle.distances.specs.Promise.{DistanceWithObstacles};
 
 use crate::search::search_distances;
-use calls::{Answer, judge_2};
+use calls::{Answer, Lengths, judge_2};
 use rules::{BarrierDiagonals, Grid, Spacing};
 use spread::{Rule, Search};
 
@@ -20,13 +20,11 @@ pub fn distance_with_obstacles(
 ) -> Answer
     ensures { DistanceWithObstacles targets.entry.size targets.entry.cells.now obstacles.entry.size obstacles.entry.cells.now spacing diagonals (slice answer.old answer.new) (slice marks.old marks.new) (slice queue.old queue.new) result }
 {
-    judge_2(
-        targets,
-        obstacles,
-        spacing,
-        &[answer.len(), marks.len()],
-        queue.len(),
-    )?;
+    let lengths = Lengths {
+        slices: &[answer.len(), marks.len()],
+        queue: queue.len(),
+    };
+    judge_2(targets, obstacles, spacing, lengths)?;
     let search = Search {
         rule: Rule::Obstacles(diagonals),
         size: targets.size,

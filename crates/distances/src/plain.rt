@@ -4,7 +4,7 @@ ghost use Rattle.distances.specs.Promise.{DistancesUpTo, Distance};
 
 use crate::search::search_distances;
 use binary32::infinity;
-use calls::{Answer, judge_1};
+use calls::{Answer, Lengths, judge_1};
 use rules::{Grid, Spacing};
 use spread::{Rule, Search};
 
@@ -19,7 +19,11 @@ pub fn distances_up_to(
 ) -> Answer
     ensures { DistancesUpTo targets.entry.size targets.entry.cells.now spacing (slice answer.old answer.new) (slice marks.old marks.new) (slice queue.old queue.new) result }
 {
-    judge_1(targets, spacing, &[answer.len(), marks.len()], queue.len())?;
+    let lengths = Lengths {
+        slices: &[answer.len(), marks.len()],
+        queue: queue.len(),
+    };
+    judge_1(targets, spacing, lengths)?;
     let search = Search {
         rule: Rule::Plain,
         size: targets.size,

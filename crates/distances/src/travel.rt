@@ -4,7 +4,7 @@ ghost use Rattle.distances.specs.Promise.{TravelDistancesUpTo, TravelDistance};
 
 use crate::search::search_travel;
 use binary32::infinity;
-use calls::{Answer, judge_3};
+use calls::{Answer, Lengths, judge_3};
 use rules::Grid;
 use spread::{Rule, Search};
 
@@ -20,13 +20,11 @@ pub fn travel_distances_up_to(
 ) -> Answer
     ensures { TravelDistancesUpTo targets.entry.size targets.entry.cells.now times.entry.size times.entry.cells.now limit (slice answer.old answer.new) (slice marks.old marks.new) (slice queue.old queue.new) result }
 {
-    judge_3(
-        targets,
-        times,
-        limit,
-        &[answer.len(), marks.len()],
-        queue.len(),
-    )?;
+    let lengths = Lengths {
+        slices: &[answer.len(), marks.len()],
+        queue: queue.len(),
+    };
+    judge_3(targets, times, limit, lengths)?;
     let search = Search {
         rule: Rule::HalfSum,
         size: targets.size,

@@ -3,7 +3,7 @@ ghost use Rattle.calls.specs.Promise.{slice};
 ghost use Rattle.values.specs.Promise.{ValueAtClosestTarget};
 
 use crate::search::search_values;
-use calls::{Answer, judge_4};
+use calls::{Answer, Lengths, judge_4};
 use rules::Grid;
 use spread::{Rule, Search};
 
@@ -19,12 +19,11 @@ pub fn value_at_closest_target(
 ) -> Answer
     ensures { ValueAtClosestTarget targets.entry.size targets.entry.cells.now values.entry.size values.entry.cells.now (slice answer.old answer.new) (slice distances.old distances.new) (slice marks.old marks.new) (slice queue.old queue.new) result }
 {
-    judge_4(
-        targets,
-        values,
-        &[answer.len(), distances.len(), marks.len()],
-        queue.len(),
-    )?;
+    let lengths = Lengths {
+        slices: &[answer.len(), distances.len(), marks.len()],
+        queue: queue.len(),
+    };
+    judge_4(targets, values, lengths)?;
     let search = Search {
         rule: Rule::Closest,
         size: targets.size,

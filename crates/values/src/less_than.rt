@@ -3,7 +3,7 @@ ghost use Rattle.calls.specs.Promise.{slice};
 ghost use Rattle.values.specs.Promise.{ValueAtClosestLessThanTravelTarget};
 
 use crate::search::search_values;
-use calls::{Answer, judge_6};
+use calls::{Answer, Lengths, judge_6};
 use rules::Grid;
 use spread::{Rule, Search};
 
@@ -22,14 +22,11 @@ pub fn value_at_closest_less_than_travel_target(
 ) -> Answer
     ensures { ValueAtClosestLessThanTravelTarget targets.entry.size targets.entry.cells.now times.entry.size times.entry.cells.now values.entry.size values.entry.cells.now limit (slice answer.old answer.new) (slice distances.old distances.new) (slice marks.old marks.new) (slice queue.old queue.new) result }
 {
-    judge_6(
-        targets,
-        times,
-        values,
-        limit,
-        &[answer.len(), distances.len(), marks.len()],
-        queue.len(),
-    )?;
+    let lengths = Lengths {
+        slices: &[answer.len(), distances.len(), marks.len()],
+        queue: queue.len(),
+    };
+    judge_6(targets, times, values, limit, lengths)?;
     let search = Search {
         rule: Rule::ByTime,
         size: targets.size,

@@ -4,7 +4,7 @@ ghost use Rattle.values.specs.Promise.{ValueAtClosestTravelTarget};
 
 use crate::search::search_values;
 use binary32::infinity;
-use calls::{Answer, judge_5};
+use calls::{Answer, Lengths, judge_5};
 use rules::Grid;
 use spread::{Rule, Search};
 
@@ -21,13 +21,11 @@ pub fn value_at_closest_travel_target(
 ) -> Answer
     ensures { ValueAtClosestTravelTarget targets.entry.size targets.entry.cells.now times.entry.size times.entry.cells.now values.entry.size values.entry.cells.now (slice answer.old answer.new) (slice distances.old distances.new) (slice marks.old marks.new) (slice queue.old queue.new) result }
 {
-    judge_5(
-        targets,
-        times,
-        values,
-        &[answer.len(), distances.len(), marks.len()],
-        queue.len(),
-    )?;
+    let lengths = Lengths {
+        slices: &[answer.len(), distances.len(), marks.len()],
+        queue: queue.len(),
+    };
+    judge_5(targets, times, values, lengths)?;
     let search = Search {
         rule: Rule::ByTime,
         size: targets.size,
