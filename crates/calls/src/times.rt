@@ -7,7 +7,8 @@ ghost use Rattle.calls.specs.Given.{Held};
 use crate::answer::Refusal;
 use rules::Size;
 
-// 6: the first time below 0 in row order, which leaves both loops.
+// 6: the first time below 0 in row order, which leaves both loops, as document 01 fixes. The times are no grid here: of a slice
+// that is a parameter it is known that its floats are those of binary32, and not of one in a record.
 #[tactic(auto, using(crate::proofs::RowScans::row_scans), unfolding(rules::specs::Sizes::first_that_holds))]
 pub fn first_negative(size: Size, times: &[f32]) -> Result<(), Refusal>
     requires bounded { T (in_bounds size) }
