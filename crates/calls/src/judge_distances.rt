@@ -1,5 +1,6 @@
 // The refusals 1 to 6 of the searches for distances, tested in document 01's order.
-// A search gives its input grids, its numbers, and the lengths of what it is lent.
+// A search gives its input grids, its numbers, and the lengths of what it is lent. Each search has its function: which tests it has, and
+// of which grids, differs, and a parameter for each difference would be longer than the lines that are alike.
 #![tactic(auto, unfolding(rules::specs::Distances::refusals_1, rules::specs::Distances::refusals_2, rules::specs::Distances::refusals_3, rules::specs::Sizes::shape, rules::specs::Sizes::first_that_holds))]
 
 ghost use Rattle.std.specs.Prelude.{◌≡◌, OnOk};

@@ -45,7 +45,7 @@ pub fn judge_limit(limit: f32) -> Result<(), Refusal>
     Ok(())
 }
 
-// 5, by a budget.
+// 5, by a budget. (Two functions of four lines: one would be handed its test.)
 pub fn judge_budget(limit: f32) -> Result<(), Refusal>
     ensures { judged_as result ≡ first_that_holds (bad_budget limit ∷ []) }
 {

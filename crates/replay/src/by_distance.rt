@@ -1,4 +1,4 @@
-// The calls whose answer is distances.
+// The calls whose answer is distances. One function for each search, here and beside: each call takes other grids and buffers.
 use crate::case::Case;
 use crate::lent::Lent;
 use calls::Answer;

@@ -13,7 +13,7 @@ use rules::Size;
 // The target byte that stands for nodata.
 pub const NODATA_BYTE: u8 = 255;
 
-// What a cell begins with: its label, and whether it starts.
+// What a cell begins with: its label, and whether it starts. The label is stored either way, so that no Option says it.
 #[derive(Clone, Copy)]
 pub struct First {
     pub distance: f32,

@@ -25,6 +25,7 @@ pub fn scan_listed<F: Formula, A: Avoids, const CARRYING: bool>(
     ensures does { Does search (scanning (left_label search left) (listed_steps search (ground_of ground.entry) left.cell cells.now straight count)) (held b.old) (held b.new) }
     ensures same { SameLoans b.old b.new }
 {
+    // By index, since it tells straight from diagonal.
     for k in 0..count {
         let diagonal = straight <= k;
         relax::<F, A, CARRYING>(search, diagonal, ground, left, cells[k], b);

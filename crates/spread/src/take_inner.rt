@@ -21,6 +21,7 @@ pub fn take_inner<F: Formula, A: Avoids, const CARRYING: bool>(
     ensures same { SameLoans b.old b.new }
 {
     let mut takes: u64 = 0;
+    // Takes are counted, and no index: it ends by what waits.
     while takes < most && is_next_inner(search.size, b) {
         let _took = take_inner_cell::<F, A, CARRYING>(search, ground, b);
         takes += 1;
