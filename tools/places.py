@@ -244,11 +244,11 @@ def point_6(texts):
 def point_7(texts):
     """switches on which step to run: a match over kinds whose arms call, and tests of a number of a kind"""
     for path, text in texts.items():
-        for found in re.finditer(r"\bmatch (\w+) \{", text):
+        for found in re.finditer(r"\bmatch ([\w.]+) \{", text):
             body = text[found.end():closing(text, found.end() - 1)]
-            arms = re.findall(r"(?:^|[\s,{])(?:[A-Z]\w*(?:::\w+)?(?:\([^)]*\))?|\d+|_)(?: \| \d+)* => (?:\{?\s*)?(\w+)\(", body)
-            if len(arms) >= 3:
-                yield path, line_of(text, found.start()), f"match {found.group(1)}: {len(arms)} arms that call"
+            calls = re.findall(r"=>\s*(?:\{\s*)?[a-z]\w*(?:::[a-z]\w*)*(?:::<[^()]*>)?\(", body)
+            if len(calls) >= 3:
+                yield path, line_of(text, found.start()), f"match {found.group(1)}: {len(calls)} arms that call"
         for found in re.finditer(r"\bif (formula|avoided|from) [!=]= [A-Z_]+", text):
             yield path, line_of(text, found.start()), found.group()
 
