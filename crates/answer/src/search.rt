@@ -21,7 +21,7 @@ const CELLS: usize = FILE_CELLS_MAX;
 // One slot more than cells.
 const SLOTS: usize = CELLS + 1;
 
-// Runs the search that the request asks for.
+// Runs the search that the request asks for. Each takes other grids and buffers, so that they are matched and not tabled.
 fn run(
     request: Request,
     targets: &[u8],

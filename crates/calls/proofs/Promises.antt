@@ -1,6 +1,6 @@
 -- What every search shows of its promise: a refused call keeps it, an accepted one as its search does, it decides the call, and what an accepted call
 -- found. Assumes nothing.
-use mathlib.Core.Path.{◌≡◌, refl, sym, ap, ◌∙◌}
+use mathlib.Core.Path.{◌≡◌, refl, sym, ap, ◌∙◌, subst}
 use mathlib.Core.Bool.{false}
 use mathlib.Core.List.{List}
 use Prim.Native.Nat.{ℕ}
@@ -11,7 +11,7 @@ use Rattle.rules.specs.Sizes.{Judged, passes, stops, Outcome, accepted, unless}
 use Rattle.rules.proofs.Tests.{never}
 use Rattle.rules.proofs.Decided.{equation_decides}
 use Rattle.calls.specs.Answer as code
-use Rattle.calls.specs.Answer.{Answer, Err, refusal_number, refusal, takes, told, tell}
+use Rattle.calls.specs.Answer.{Answer, Ok, Err, judged_as, refusal_number, refusal, takes, told, tell}
 use Rattle.calls.specs.Promise.{Slice, slice, Promised, Same}
 use Rattle.calls.proofs.Decided.{outcome_decides}
 use Rattle.calls.proofs.Untouched.{judged_writes, refused_is, answer_untouched, buffer_untouched}
@@ -27,6 +27,11 @@ module _ {refusals : Judged} (search : Unit {0} → Outcome) (refusal : code.Ref
     marks_left = buffer_untouched search refusal stopped quiet 0 marks;
     queue_left = buffer_untouched search refusal stopped quiet 0 queue;
   }
+
+-- A call that no test refuses keeps the promise of its search, whatever buffers the promise speaks of.
+module _ {refusals : Judged} (search : Unit {0} → Outcome) (judged : code.Judged) (means : judged_as judged ≡ refusals) where
+  pub promised_searched : (Keeps : Outcome → Type 0) {found : Outcome} → judged ≡ Ok tt → found ≡ search tt → Keeps found → Keeps (unless refusals search)
+  promised_searched Keeps is same kept = subst Keeps (same ∙ ap (λ (r : Judged). unless r search) (sym (ap judged_as is) ∙ means)) kept
 
 -- A buffer that is zeroed has the length that it had.
 pub still_zero : {A : Type 0} (zero : A) {after : List A} {long before n : ℕ} → after ≡ replicate long zero → long ≡ n → before ≡ n → after ≡ replicate before zero

@@ -1,4 +1,4 @@
-// The refusals 1 to 6 of the searches for sums within reach.
+// The refusals 1 to 6 of the searches for sums within reach. A function for each search, as in judge_distances.rt.
 #![tactic(auto, unfolding(rules::specs::Sums::refusals_7, rules::specs::Sums::refusals_8, rules::specs::Sizes::shape, rules::specs::Sizes::first_that_holds))]
 
 ghost use Rattle.std.specs.Prelude.{◌≡◌, [], ◌∷◌, T, length, OnOk};
@@ -13,7 +13,7 @@ use crate::shape::{Lengths, judge_shape};
 use crate::times::first_negative;
 use rules::{Grid, Size};
 
-// 5, by a budget, then 6.
+// 5, by a budget, then 6. The times are a slice and no `Grid`, as in `first_negative`.
 fn judge_budget_and_times(budget: f32, size: Size, times: &[f32]) -> Result<(), Refusal>
     requires bounded { T (in_bounds size) }
     requires whole { length times.now ≡ count size }

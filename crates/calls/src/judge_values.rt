@@ -1,4 +1,4 @@
-// The refusals 1 to 6 of the searches for values at the closest target.
+// The refusals 1 to 6 of the searches for values at the closest target. A function for each search, as in judge_distances.rt.
 #![tactic(auto, unfolding(rules::specs::Values::refusals_4, rules::specs::Values::refusals_5, rules::specs::Values::refusals_6, rules::specs::Sizes::shape, rules::specs::Sizes::first_that_holds))]
 
 ghost use Rattle.std.specs.Prelude.{◌≡◌, OnOk};

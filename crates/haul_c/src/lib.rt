@@ -4,7 +4,8 @@
 //
 // A slice passes as a pointer and then a length. The result of a search is 0, or the number of document
 // 01's refusal. `takes` is written on acceptance only, `index` only with a refusal that has one. The
-// result of `haul_answer` is the length of the answer that it wrote. What C passes stays a number here: flags, sizes and slices one by one.
+// result of `haul_answer` is the length of the answer that it wrote. What C passes stays a number here: flags, sizes and slices one by one,
+// and each search has its export.
 #![tactic(auto)]
 
 mod by_distance;

@@ -7,7 +7,7 @@ use crate::{answers, by_distance, by_sum, by_value};
 use calls::Answer;
 use gridfile::Search;
 
-// What the search answers.
+// What the search answers. Each takes other grids and buffers, so that they are matched and not tabled.
 fn run(search: Search, case: &Case<'_>, lent: &mut Lent<'_>) -> Answer {
     match search {
         Search::DistancesUpTo => by_distance::search_1(case, lent),

@@ -12,7 +12,7 @@ use calls::{Numbered, fill};
 pub type Told = Result<u64, Numbered>;
 
 // The number of the refusal for a cell over the budget, which is the last. It alone comes of a call
-// that ran.
+// that ran. The text has refusals by their numbers.
 const OVER_BUDGET: u8 = 7;
 
 // The bits that a refusal leaves in each cell of the answer: the last has the one NaN, and any other

@@ -29,6 +29,7 @@ fn run<F: Formula, A: Avoids, const CARRYING: bool>(
     let cells = cell_count(search.size) as u64;
     let most = cells * cells;
     let mut takes: u64 = 0;
+    // Takes are counted, and no index: it ends when nothing waits.
     while takes < most {
         takes += take_inner::<F, A, CARRYING>(search, ground, b, most - takes);
         if takes < most {

@@ -76,7 +76,7 @@ pub fn take_inner_cell<F: Formula, A: Avoids, const CARRYING: bool>(
     }
 }
 
-// Takes the next cell, at an edge or not.
+// Takes the next cell, at an edge or not. It differs from the take above in what is scanned: a scan that was handed in would be out of line.
 // Inlined: see lib.rt.
 #[inline(always)]
 pub fn take_edge_cell<F: Formula, A: Avoids, const CARRYING: bool>(

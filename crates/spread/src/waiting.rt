@@ -6,7 +6,7 @@ ghost use Rattle.spread.specs.Buffers.{held, SameLoans, TookFrom};
 use crate::buffers::Buffers;
 use cells::Ring;
 
-// The cell was not reached, waits, or was taken.
+// The cell was not reached, waits, or was taken. C lends the marks as bytes.
 pub const MARK_TODO: u8 = 0;
 
 pub const MARK_BORDER: u8 = 1;

@@ -7,6 +7,9 @@
 // cell over the budget. The takes of all runs are counted together, and the work buffers are left all
 // zero. From these promises alone proofs/ shows that a call is decided, and that the takes of each start
 // are within the square.
+//
+// Each search is a function of its own, by the name that document 01 gives it, and takes what it is lent slice by slice, as document 01
+// lists it and C lends it.
 #![tactic(auto)]
 
 mod amounts;

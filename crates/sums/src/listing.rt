@@ -14,7 +14,7 @@ pub struct Reached {
     pub count: usize,
 }
 
-// Takes cells until nothing waits, and lists each at its first take.
+// Takes cells until nothing waits, and lists each at its first take. (Why this loop and that of gain.rt are two: there.)
 pub fn run_listing(
     search: Search,
     obstacles: &[u8],
