@@ -40,7 +40,7 @@ module _ {A : Type 0} (f : A → A) where
   pub mapped_all : {before now : List A} {i : ℕ} → MappedBelow f before now i → length before ≤ i → now ≡ map f before
   mapped_all {before} {now} {i} turns end = turns.held ∙ whole i before end
 
-map_constant : {A : Type 0} (v : A) (before : List A) → map (λ (a : A). v) before ≡ replicate (length before) v
+pub map_constant : {A : Type 0} (v : A) (before : List A) → map (λ (a : A). v) before ≡ replicate (length before) v
 map_constant v [] = refl
 map_constant v (a ∷ before) = ap (λ (rest : List _). v ∷ rest) (map_constant v before)
 

@@ -4,7 +4,7 @@
 ghost use Rattle.std.specs.Prelude.{◌≡◌, [], ◌∷◌, T, length, OnOk};
 ghost use Rattle.rules.specs.Sums.{refusals_7, refusals_8};
 ghost use Rattle.calls.specs.Answer.{judged_as};
-ghost use Rattle.rules.specs.Sizes.{grid, in_bounds, count, first_that_holds, bad_budget, negative_time};
+ghost use Rattle.rules.specs.Sizes.{grid, in_bounds, count, first_that_holds, or_else, bad_budget, negative_time};
 ghost use Rattle.calls.specs.Given.{Held, lent};
 
 use crate::answer::Refusal;
@@ -19,6 +19,7 @@ fn judge_budget_and_times(budget: f32, size: Size, times: &[f32]) -> Result<(), 
     requires whole { length times.now ≡ count size }
     ensures held { Held times.now }
     ensures judged { judged_as result ≡ first_that_holds (bad_budget budget ∷ negative_time times.now ∷ []) }
+    ensures ordered { judged_as result ≡ or_else (first_that_holds (bad_budget budget ∷ [])) (first_that_holds (negative_time times.now ∷ [])) }
 {
     judge_budget(budget)?;
     first_negative(size, times)

@@ -2,7 +2,7 @@
 ghost use Rattle.std.specs.Prelude.{◌≡◌};
 ghost use Rattle.rules.specs.Distances.{scaled};
 
-use binary32::{is_nodata, nan, one_nan};
+use binary32::{is_nodata, one_nan};
 use rules::Spacing;
 
 // Multiplies every distance by the cell size.
@@ -16,13 +16,14 @@ pub fn scale(distances: &mut [f32], spacing: Spacing)
     }
 }
 
-// Makes every NaN of an answer that is not scaled the one NaN.
+// Makes every NaN of an answer that is not scaled the one NaN. Where there is none nothing is stored; else each cell is, so that no
+// jump depends on where they lie.
 pub fn settle(answer: &mut [f32])
     ensures { answer.new ≡ answer.old }
 {
-    for cell in answer.iter_mut() {
-        if is_nodata(*cell) {
-            *cell = nan();
+    if answer.iter().any(|cell| is_nodata(*cell)) {
+        for cell in answer.iter_mut() {
+            *cell = one_nan(*cell);
         }
     }
 }

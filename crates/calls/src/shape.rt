@@ -6,7 +6,7 @@ ghost use Rattle.calls.specs.Answer.{judged_as};
 ghost use Rattle.calls.specs.Given.{lent};
 
 use crate::answer::Refusal;
-use cells::{cell_count, in_bounds};
+use cells::{cell_count, in_bounds, same_size};
 use rules::Size;
 
 // The lengths of what a call is lent: those of the answer and of the work buffers in their order, and that of the queue.
@@ -27,7 +27,7 @@ fn any_out_of_bounds(sizes: &[Size]) -> bool
 fn differs(a: Size, b: Size) -> bool
     ensures { result ≡ differs a b }
 {
-    a != b
+    !same_size(a, b)
 }
 
 // Whether a size differs from the first.

@@ -7,6 +7,10 @@ use Rattle.std.specs.Float.Ieee.{to_bits}
 abbrev pub most_answer_cells : ℕ
 most_answer_cells = 1024
 
+-- The most cells of a stored grid: one more.
+abbrev pub most_stored_cells : ℕ
+most_stored_cells = 1025
+
 -- Every cell has the bits v. Past the cells stands some cell that nothing is said of.
 abbrev pub AllHold : {X : Type 0} → (X → ℕ) → X → List X → ℕ → Type 0
 AllHold bits past cells v = (k : ℕ) → k < length cells → bits (get_or cells k past) ≡ v

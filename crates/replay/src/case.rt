@@ -1,6 +1,6 @@
 // A whole case: its settings, its grids and its stored answer.
 ghost use Rattle.std.specs.Prelude.{◌≤◌, ◌<◌, length, IfOk};
-ghost use Rattle.replay.specs.Buffers.{most_answer_cells};
+ghost use Rattle.replay.specs.Buffers.{most_answer_cells, most_stored_cells};
 ghost use Rattle.replay.specs.Reading.{GoesOn};
 
 use crate::grids::{CELLS, Cell, SLOTS};
@@ -53,7 +53,8 @@ fn grid_if<'a, T: Cell>(
     name: &[u8],
     room: &'a mut [T],
 ) -> Result<Grid<'a, T>, Malformed>
-    ensures { GoesOn reader.old reader.new }
+    ensures goes_on { GoesOn reader.old reader.new }
+    ensures fits { IfOk result (λ grid. length grid.cells.now ≤ length room.old) }
 {
     if has {
         grids::read_grid(reader, name, room)
@@ -66,6 +67,10 @@ fn grid_if<'a, T: Cell>(
 pub fn read_case<'a>(reader: &mut Reader<'_>, room: &'a mut Room) -> Result<Case<'a>, Malformed>
     ensures goes_on { GoesOn reader.old reader.new }
     ensures further { IfOk result (λ _. reader.old.pos < reader.new.pos) }
+    ensures targets_fit { IfOk result (λ case. length case.targets.cells.now ≤ most_stored_cells) }
+    ensures obstacles_fit { IfOk result (λ case. length case.obstacles.cells.now ≤ most_stored_cells) }
+    ensures times_fit { IfOk result (λ case. length case.times.cells.now ≤ most_stored_cells) }
+    ensures values_fit { IfOk result (λ case. length case.values.cells.now ≤ most_stored_cells) }
 {
     let Room {
         targets,

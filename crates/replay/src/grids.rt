@@ -1,5 +1,5 @@
 // The grids of a case, read into lent buffers.
-ghost use Rattle.std.specs.Prelude.{◌≤◌};
+ghost use Rattle.std.specs.Prelude.{◌≤◌, length, IfOk};
 ghost use Rattle.replay.specs.Buffers.{most_answer_cells};
 ghost use Rattle.replay.specs.Reading.{GoesOn};
 
@@ -48,7 +48,9 @@ pub fn read_cells<T: Cell>(reader: &mut Reader<'_>, cells: &mut [T]) -> Result<(
 }
 
 // The grid that a search does not have.
-pub fn no_grid<T>(room: &[T]) -> Grid<'_, T> {
+pub fn no_grid<T>(room: &[T]) -> Grid<'_, T>
+    ensures { length result.cells.now ≤ 0 }
+{
     Grid {
         size: Size { rows: 0, cols: 0 },
         cells: &room[..0],
@@ -62,7 +64,8 @@ pub fn read_grid<'a, T: Cell>(
     name: &[u8],
     room: &'a mut [T],
 ) -> Result<Grid<'a, T>, Malformed>
-    ensures { GoesOn reader.old reader.new }
+    ensures goes_on { GoesOn reader.old reader.new }
+    ensures fits { IfOk result (λ grid. length grid.cells.now ≤ length room.old) }
 {
     reader.literal(name)?;
     let rows = reader.signed()?;

@@ -62,7 +62,9 @@ impl fmt::Display for Failure {
     }
 }
 
-// Whether the case that comes next agrees: read, run and compared.
+// Whether the case that comes next agrees: read, run and compared. A function of its own in the program too, so that its buffers take
+// stack only where there is a case.
+#[inline(never)]
 fn replay_case(reader: &mut Reader<'_>) -> Result<bool, Malformed>
     ensures goes_on { GoesOn reader.old reader.new }
     ensures further { IfOk result (λ _. reader.old.pos < reader.new.pos) }
