@@ -16,8 +16,8 @@ pub fn scale(distances: &mut [f32], spacing: Spacing)
     }
 }
 
-// Makes every NaN of an answer that is not scaled the one NaN. Where there is none nothing is stored; else each cell is, so that no
-// jump depends on where they lie.
+// Makes every NaN of an answer that is not scaled the one NaN. Where there is none nothing is stored; else each cell is, by a choice
+// without a jump, which would be guessed wrong wherever NaN and data alternate.
 pub fn settle(answer: &mut [f32])
     ensures { answer.new ≡ answer.old }
 {
